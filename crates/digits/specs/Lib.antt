@@ -1,0 +1,13 @@
+pub mod Integer
+pub mod Congruent
+pub mod Machine
+pub mod Limits
+pub mod Scalar
+pub mod Length
+pub mod Bytes
+pub mod Byte
+pub mod Row
+pub mod RowAdding
+pub mod Column
+pub mod Adding
+pub mod Two

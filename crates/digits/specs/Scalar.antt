@@ -1,0 +1,23 @@
+-- Scalars: unsigned numbers in bytes, the most significant first, and their bit length.
+use mathlib.Core.Path.{_≡_, refl, ap}
+use mathlib.Core.List.{List, [], _∷_, reverse}
+use Prim.Native.Nat.{ℕ, zero, suc, _+_, _*_, _/_, _<_}
+
+-- the number of a list of bytes, the least significant first
+unfoldable pub little : List ℕ → ℕ
+little [] = 0
+little (b ∷ bs) = b + 256 * little bs
+
+-- the scalar of a list of bytes
+unfoldable pub scalar : List ℕ → ℕ
+scalar s = little (reverse s)
+
+-- the bit length of n: the place of its top one bit plus 1, and 0 for zero. Halving n takes one off it; the first number
+-- bounds how often
+unfoldable pub bitLengthIn : ℕ → ℕ → ℕ
+bitLengthIn zero n = 0
+bitLengthIn (suc f) zero = 0
+bitLengthIn (suc f) (suc n) = suc (bitLengthIn f (suc n / 2))
+
+unfoldable pub bitLength : ℕ → ℕ
+bitLength n = bitLengthIn n n

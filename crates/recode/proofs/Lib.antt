@@ -1,0 +1,9 @@
+pub mod Turned
+pub mod Masked
+pub mod LowBits
+pub mod Laid
+pub mod Prefix
+pub mod LowRemainder
+pub mod RowTurns
+pub mod RowLoop
+pub mod RowAnswers

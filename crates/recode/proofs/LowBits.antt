@@ -1,0 +1,101 @@
+-- The laws of a remainder held as low bits and bytes: taking in the next byte, dropping zeros, and halving.
+use mathlib.Core.Path.{_≡_, refl, sym, ap, _∙_}
+use mathlib.Core.Logic.{_≢_}
+use mathlib.Core.List.{List, [], _∷_}
+use Prim.Native.Nat.{ℕ, zero, suc, _+_, _-_, _*_, _/_, _%_, _^_, _≤_, _<_}
+use native.Mathlib.Nat.{mul-le-mul-left, lt-of-not-le, le-of-suc-le-suc, mul-div-cancel-left, pow-suc, zero-div}
+use native.Mathlib.Numerals.{add-one, sub-one}
+use native.Mathlib.Omega.{arith}
+use lib.Count.{trailingZeros, under}
+use lib.ListN.{length, getD, drop, drop-of-length-le}
+use lib.Pow.{pow-add, pow-pos, pow-mono, shl-exact}
+use lib.Seq.{drop-cons}
+use lib.IntN.{ℤ, pos, negsuc, natAbs, _-ℤ_, pos-ne-negsuc}
+use Rattle.digits.specs.Integer.{up, down, half, difference, size}
+use Rattle.digits.specs.Scalar.{little}
+
+-- a byte above at most 5 low bits
+pub shifted-byte : (b k : ℕ) → b < 256 → k ≤ 5 → (b * 2 ^ k) % 65536 ≡ b * 2 ^ k
+shifted-byte b k h l = shl-exact {a = b} 8 k 16 h (omega arith)
+
+pub more-bits : (k : ℕ) → 2 ^ (k + 8) ≡ 256 * 2 ^ k
+more-bits k = pow-add 2 k 8 ∙ omega arith
+
+pub byte-bound : (b k x : ℕ) → b < 256 → x ≤ 2 ^ k + 31 → x + b * 2 ^ k ≤ 256 * 2 ^ k + 31
+byte-bound b k x h l = omega (arith, mul-le-mul-left (2 ^ k) h)
+
+pub few : (k : ℕ) → k ≤ 5 → 2 ^ k ≤ 32
+few k h = pow-mono {j = 5} h
+
+pub next-byte : (bytes : List ℕ) (at k x : ℕ) → at < length bytes
+    → x + getD bytes at 0 * 2 ^ k + 2 ^ (k + 8) * little (drop (at + 1) bytes) ≡ x + 2 ^ k * little (drop at bytes)
+unfolding little
+next-byte bytes at k x h =
+    rw (drop-cons bytes at 0 h, more-bits, add-one) (omega arith)
+
+pub no-byte : (bytes : List ℕ) (at j k x : ℕ) → length bytes ≤ at → x + 2 ^ j * little (drop at bytes) ≡ x + 2 ^ k * little (drop at bytes)
+unfolding little
+no-byte bytes at j k x h = rw (drop-of-length-le bytes h) (omega arith)
+
+-- one zero more
+doubled : (n t q : ℕ) → n % 2 ≡ 0 → n / 2 ≡ 2 ^ t * q → n ≡ 2 ^ suc t * q
+doubled n t q e h = rw pow-suc (omega arith)
+
+-- a number is its trailing zeros' power times an odd number
+odd-part : (k n : ℕ) → 0 < n → n < 2 ^ k → (q : ℕ) × (n ≡ 2 ^ trailingZeros k n * q) × (q % 2 ≡ 1)
+unfolding trailingZeros
+odd-part zero n p h = absurd (omega arith)
+odd-part (suc k) n p h = go (n % 2) refl (λ q. odd-part k (n / 2) q (omega arith))
+  where
+    go : (r : ℕ) → n % 2 ≡ r → (0 < n / 2 → (q : ℕ) × (n / 2 ≡ 2 ^ trailingZeros k (n / 2) * q) × (q % 2 ≡ 1))
+        → (q : ℕ) × (n ≡ 2 ^ under r (trailingZeros k (n / 2)) * q) × (q % 2 ≡ 1)
+    go zero e rest = let t = rest (omega arith) in (t .0, doubled n (trailingZeros k (n / 2)) (t .0) e (t .1), t .2)
+    go (suc r) e rest = (n, omega arith, omega arith)
+
+-- what `zeros` answers of n, which has b low bits
+abbrev pub Zeros : ℕ → ℕ → ℕ → Type 0
+Zeros b n z = (z ≤ b) × ((n ≡ 2 ^ z * (n / 2 ^ z)) × (z ≡ 0 → n % 2 ≡ 1))
+
+within : (b n z q : ℕ) → 6 ≤ b → n ≤ 2 ^ b + 31 → n ≡ 2 ^ z * q → q % 2 ≡ 1 → z ≤ b
+within b n z q h l e o =
+    le-of-suc-le-suc (lt-of-not-le {n = suc b} (λ (g : suc b ≤ z).
+    omega (arith, pow-mono {i = 6} {j = b} h, pow-mono {i = suc b} {j = z} g, mul-le-mul-left {m = 1} {n = q} (2 ^ z) (omega arith))))
+
+odd-zero : (n z q : ℕ) → n ≡ 2 ^ z * q → q % 2 ≡ 1 → z ≡ 0 → n % 2 ≡ 1
+odd-zero n z q e o p = let f : n ≡ 1 * q = e ∙ ap (λ (k : ℕ). 2 ^ k * q) p in omega arith
+
+pub trailing : (b n : ℕ) → 6 ≤ b → n ≤ 2 ^ b + 31 → n ≢ 0 → n < 65536 → Zeros b n (trailingZeros 16 n)
+trailing b n h l p m = go (trailingZeros 16 n) (odd-part 16 n (omega arith) m)
+  where
+    go : (z : ℕ) → (q : ℕ) × (n ≡ 2 ^ z * q) × (q % 2 ≡ 1) → Zeros b n z
+    go z t =
+        let quotient : n / 2 ^ z ≡ t .0 = ap (λ (k : ℕ). k / 2 ^ z) (t .1) ∙ mul-div-cancel-left (t .0) (pow-pos z) in
+        (within b n z (t .0) h l (t .1) (t .2), (rw quotient (t .1), odd-zero n z (t .0) (t .1) (t .2)))
+
+pub all-zeros : (b n : ℕ) → 6 ≤ b → n ≡ 0 → Zeros b n b
+all-zeros b n h e = rw e (omega arith, (rw zero-div (omega arith), omega arith))
+
+-- dropping z zeros of b bits keeps the number within its bits
+shrunk : (b n z q k : ℕ) → n ≤ 2 ^ b + 31 → n ≡ 2 ^ z * q → k + z ≡ b → q ≤ 2 ^ k + 31
+shrunk b n z q k l f g =
+    let over : ¬ (2 ^ k + 32 ≤ q) =
+    λ m. omega (arith, pow-add 2 k z, ap (λ (i : ℕ). 2 ^ i) g, pow-pos z, mul-le-mul-left (2 ^ z) m)
+    in
+    omega arith
+
+pub shifted-bound : (b n z : ℕ) → z ≤ b → n ≤ 2 ^ b + 31 → n ≡ 2 ^ z * (n / 2 ^ z) → n / 2 ^ z ≤ 2 ^ (b - z) + 31
+shifted-bound b n z h l e = shrunk b n z (n / 2 ^ z) (b - z) l e (omega arith)
+
+-- so does taking off a digit and halving
+pub half-parts : (z : ℤ) (r : ℕ) → pos r ≡ half z → (down z ≡ 0) × ((2 * r ≤ up z) × (up z ≤ 2 * r + 1))
+unfolding half
+half-parts (pos n) r e = omega (arith, ap up e)
+half-parts (negsuc n) r e = absurd (pos-ne-negsuc r (n / 2) e)
+
+pub one-bit-less : (b : ℕ) → 1 ≤ b → 2 ^ b ≡ 2 * 2 ^ (b - 1)
+one-bit-less zero h = absurd (omega arith)
+one-bit-less (suc b) h = rw sub-one (omega arith)
+
+pub less-bound : (b n r : ℕ) (d : ℤ) → 1 ≤ b → n ≤ 2 ^ b + 31 → natAbs d ≤ 31 → pos r ≡ half (pos n -ℤ d) → r ≤ 2 ^ (b - 1) + 31
+less-bound b n r d h l s e =
+    omega (arith, one-bit-less b h, half-parts (pos n -ℤ d) r e, difference (pos n) d, size d)

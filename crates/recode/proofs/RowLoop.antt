@@ -1,0 +1,125 @@
+-- One turn of the row loop over plain values: the state that the loop keeps, and what each kind of turn makes of it.
+use mathlib.Core.Path.{_≡_, refl, sym, ap, subst, _∙_}
+use mathlib.Core.Logic.{_≢_}
+use mathlib.Core.List.{List}
+use Prim.Native.Nat.{ℕ, zero, suc, _+_, _-_, _*_, _/_, _%_, _^_, _≤_, _<_}
+use native.Mathlib.Omega.{arith}
+use lib.IntN.{ℤ, pos, natAbs, _-ℤ_}
+use lib.ListN.{length, set, replicate, length-set}
+use Rattle.digits.specs.Byte.{byteOf}
+use Rattle.digits.specs.Bytes.{Bytes}
+use Rattle.digits.specs.Integer.{half}
+use Rattle.digits.specs.Scalar.{little}
+use Rattle.recode.specs.declared.low.Low.{Low}
+use Rattle.recode.specs.Call.{filled}
+use Rattle.recode.specs.Remainder.{remaining, Held}
+use Rattle.recode.specs.DigitOnly.{digit-meets}
+use Rattle.recode.specs.OddDigit.{digit-small}
+use Rattle.recode.specs.Residue.{width}
+use Rattle.recode.specs.Row.{row, digit, rest}
+use Rattle.recode.specs.RowNatural.{rest-pos}
+use Rattle.recode.specs.Width.{width-least}
+use Rattle.recode.proofs.LowRemainder.{Used, remaining-new, remaining-shifted, remaining-zero, remaining-some, remaining-less, digit-low}
+use Rattle.recode.proofs.RowTurns.{Turn, start, skip, store, stop, room, bound}
+
+-- what holds throughout the loop
+pub record Given (bytes : List ℕ) (used m : ℕ) (out₀ : List ℕ) : Type 0 where
+  pub one : 1 ≤ m
+  pub most : m ≤ 31
+  pub are-bytes : Bytes bytes
+  pub in-use : Used bytes used
+  pub cleared : out₀ ≡ replicate (length out₀) 0
+  pub fits : length (row m (pos (little bytes))) ≤ length out₀
+
+positive : (z r : ℕ) → 0 < 2 ^ z * r → 0 < r
+positive z zero p = absurd (omega arith)
+positive z (suc r) p = omega arith
+
+rest-half : (m : ℕ) (c d : ℤ) → d ≡ digit m c → half (c -ℤ d) ≡ rest m c
+unfolding rest
+rest-half m c d e = ap (λ (x : ℤ). half (c -ℤ x)) e
+
+abbrev pub State : List ℕ → ℕ → List ℕ → List ℕ → Low → ℕ → Type 0
+State bytes m out₀ out low place =
+    Held low × ((length out ≡ length out₀) × Turn m (little bytes) (length out₀) (remaining bytes low) out place)
+
+module _ {bytes : List ℕ} {used m : ℕ} {out₀ : List ℕ} (g : Given bytes used m out₀) where
+  pub begin : (s : Low) → (s .at ≡ 0) × ((s .bits ≡ 0) × (s .low ≡ 0)) → State bytes m out₀ out₀ s 0
+  begin s e = (
+    record { few = omega arith; low = omega arith },
+    (
+      refl,
+      subst (λ (r : ℕ). Turn m (little bytes) (length out₀) r out₀ 0) (sym (remaining-new bytes s e))
+          (start m (little bytes) (length out₀) (g .one) (g .fits) out₀ (g .cleared)),
+    ),
+  )
+
+  module _ {out : List ℕ} {place : ℕ} where
+    -- the low bits are filled up
+    pub refill : (s t : Low) → remaining bytes t ≡ remaining bytes s → Held t → State bytes m out₀ out s place → State bytes m out₀ out t place
+    refill s t e h st =
+        (h, (st .1 .0, subst (λ (r : ℕ). Turn m (little bytes) (length out₀) r out place) (sym e) (st .1 .1)))
+
+    -- the places stay within the buffer
+    pub reached : (s : Low) → State bytes m out₀ out s place → place ≤ length out
+    reached s st =
+        omega (arith, st .1 .0, bound m (little bytes) (length out₀) (g .one) (g .fits) (st .1 .1))
+
+    pub finish : (s : Low) → (s .low ≡ 0) × (used ≤ s .at) → State bytes m out₀ out s place
+        → (place ≡ length (row m (pos (little bytes)))) × (out ≡ filled (row m (pos (little bytes))) out₀)
+    finish s e st =
+        stop m (little bytes) (length out₀) (g .one) (g .fits) out₀ refl
+        (subst (λ (r : ℕ). Turn m (little bytes) (length out₀) r out place) (remaining-zero bytes s used (g .in-use) e) (st .1 .1))
+
+    module _ (s : Low) (going : s .low ≡ 0 → s .at < used) (bits : 6 ≤ s .bits) (st : State bytes m out₀ out s place) where
+      some : 0 < remaining bytes s
+      some = remaining-some bytes s used (g .are-bytes) (g .in-use) going
+
+      -- z zeros are skipped
+      pub skipped : (t : Low) (z : ℕ) → s .low ≡ 2 ^ z * (s .low / 2 ^ z) → Held t × ((t .at ≡ s .at) × ((t .bits + z ≡ s .bits) × (t .low ≡ s .low / 2 ^ z)))
+          → State bytes m out₀ out t (place + z)
+      skipped t z e h =
+          let less = remaining-shifted bytes s t z e (h .1 .0) (h .1 .1 .0) (h .1 .1 .1) in
+          let more : 0 < remaining bytes t = positive z (remaining bytes t) (subst (λ (n : ℕ). 0 < n) less some) in (
+            h .0,
+            (
+              st .1 .0,
+              skip m (little bytes) (length out₀) (g .one) (g .fits) z (remaining bytes t) more
+                  (subst (λ (r : ℕ). Turn m (little bytes) (length out₀) r out place) less (st .1 .1)),
+            ),
+          )
+
+      narrow : width m ≤ 6
+      narrow = width-least m (g .one) .1 6 (omega (arith, g .most))
+
+      pub inside : place < length out
+      inside = omega (arith, st .1 .0, room m (little bytes) (length out₀) (g .one) (g .fits) some (st .1 .1))
+
+      -- a digit d, of the low bits, is stored
+      module _ (d : ℤ) (is : d ≡ digit m (pos (s .low))) where
+        pub small : natAbs d ≤ 31
+        small = omega (arith, subst (λ (x : ℤ). natAbs x ≤ m) (sym is) (digit-small (g .one) (digit-meets m (pos (s .low)) (g .one))), g .most)
+
+        pub halved : (k : ℕ) × (half (pos (s .low) -ℤ d) ≡ pos k)
+        unfolding rest
+        halved =
+            let k = rest-pos m (s .low) (g .one) in
+            (k .0, ap (λ (x : ℤ). half (pos (s .low) -ℤ x)) is ∙ k .1)
+
+        pub stored : (t : Low) (b : ℕ) → b ≡ byteOf d → Held t × ((t .at ≡ s .at) × ((t .bits + 1 ≡ s .bits) × (pos (t .low) ≡ half (pos (s .low) -ℤ d))))
+            → State bytes m out₀ (set out place b) t (place + 1)
+        stored t b e h =
+            let same = is ∙ sym (digit-low bytes s bits m (g .one) narrow) in (
+              h .0,
+              (
+                length-set out place b ∙ st .1 .0,
+                store m (little bytes) (length out₀) (g .one) (g .fits) b (remaining bytes t) d some same e (next t same (h .1)) (st .1 .1),
+              ),
+            )
+          where
+            whole : d ≡ digit m (pos (remaining bytes s)) → half (pos (remaining bytes s) -ℤ d) ≡ rest m (pos (remaining bytes s))
+            whole same = rest-half m (pos (remaining bytes s)) d same
+
+            next : (t : Low) → d ≡ digit m (pos (remaining bytes s)) → (t .at ≡ s .at) × ((t .bits + 1 ≡ s .bits) × (pos (t .low) ≡ half (pos (s .low) -ℤ d))) → pos (remaining bytes t) ≡ rest m (pos (remaining bytes s))
+            next t same h =
+                remaining-less bytes s t d (h .0) (h .1 .0) (h .1 .1) ∙ whole same

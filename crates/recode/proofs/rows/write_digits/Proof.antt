@@ -1,0 +1,197 @@
+-- `write_digits` meets its contract. The loop's invariant: what stands in the buffer, followed by the row of the remainder,
+-- is the whole row (RowTurns). The measure is the number of places left.
+use mathlib.Core.Path.{_≡_, refl, sym, ap, subst, _∙_}
+use Prim.Native.Nat.{ℕ, _+_, _-_, _≤_, _<_}
+use native.Mathlib.Omega.{arith}
+use borrow.Author.Needs.{needs}
+use lib.IntN.{ℤ, pos, natAbs, _-ℤ_}
+use lib.ListN.{length, length-set}
+use mir.Syntax.{w8, w16}
+use mir.Val.{SFits, toZ, ofZ}
+use mir.Facts.{toZ-ofZ}
+use Rattle.digits.specs.Byte.{byteOf}
+use Rattle.digits.specs.Integer.{half, size, mag-size}
+use Rattle.digits.specs.Machine.{read-back}
+use Rattle.digits.specs.Scalar.{little, bitLength}
+use Rattle.recode.specs.Remainder.{remaining, Held}
+use Rattle.recode.specs.Residue.{width}
+use Rattle.recode.specs.Row.{row, digit, rest}
+use Rattle.recode.proofs.RowLoop.{Given, State, begin, refill, finish, skipped, inside, small, halved, stored, reached}
+use Rattle.recode.proofs.rows.write_digits.Statement.{statement}
+use Rattle.recode.proofs.rows.write_digits.Tie as tie
+use Rattle.recode.proofs.rows.write_digits.Reads as reads
+use Rattle.recode.proofs.rows.write_digits.Lts as lts
+use Rattle.digits.proofs.byte_of.Reads as byte-of-reads
+use Rattle.recode.proofs.digit.digit_of.Reads as digit-of-reads
+use Rattle.recode.proofs.low.Low.filled.Reads as filled-reads
+use Rattle.recode.proofs.low.Low.less.Reads as less-reads
+use Rattle.recode.proofs.low.Low.new.Reads as new-reads
+use Rattle.recode.proofs.low.Low.shifted.Reads as shifted-reads
+use Rattle.recode.proofs.low.Low.zeros.Reads as zeros-reads
+use Rattle.recode.proofs.rows.ended.Reads as ended-reads
+
+abbrev Inv-loop : tie.InvT-loop
+Inv-loop bytes used m w out₀ low₀ place₀ out low place = State bytes m out₀ out low place
+
+abbrev μ-loop : tie.MeasureT-loop
+μ-loop bytes used m w out₀ low₀ place₀ out low place = length out - place
+
+module _ (c : tie.After-new Inv-loop μ-loop) where
+  given : Given (c .before .before .before .args .bytes .now) (c .before .before .before .args .used) (c .before .before .before .args .m) (c .before .before .before .args .out .now)
+  given =
+      let p = c .before .before .before .pre in
+      record {
+        one = p .0 .0;
+        most = p .0 .1 .0;
+        are-bytes = λ i. c .before .before .shared-slice-known .given i .fits;
+        in-use = p .1 .0;
+        cleared = p .1 .1 .0;
+        fits = p .1 .1 .1;
+      }
+
+-- the state once the low bits are filled up
+module _ (c : tie.After-filled Inv-loop μ-loop) where
+  full : State (c .before .before .before .before .before .args .bytes .now) (c .before .before .before .before .before .args .m) (c .before .before .before .before .before .args .out .now) (c .before .loop .out) (c .filled .result) (c .before .loop .place)
+  full =
+      refill (given (c .before .before)) (c .before .loop .low) (c .filled .result) (c .filled .ensures .0) (c .filled .ensures .1 .0) (c .before .loop .inv)
+
+new-requires : tie.Need-new-requires Inv-loop μ-loop
+new-requires c κs = search needs
+
+loop-holds : tie.Need-loop-holds Inv-loop μ-loop
+loop-holds c = begin (given c) (c .new .result) (c .new .ensures)
+
+filled-requires : tie.Need-filled-requires Inv-loop μ-loop
+filled-requires c κs = c .loop .inv .0
+
+ended-requires : tie.Need-ended-requires Inv-loop μ-loop
+ended-requires c κs = search needs
+
+same-length : tie.Need-same-length Inv-loop μ-loop
+same-length c = c .before .before .before .loop .inv .1 .0
+
+returns : tie.Need-returns Inv-loop μ-loop
+returns c =
+    let f = c .before .before in
+    finish (given (f .before .before)) (f .filled .result) (c .before .ended .ensures .0 (c .if1 .taken)) (full f)
+
+zeros-requires : tie.Need-zeros-requires Inv-loop μ-loop
+zeros-requires c κs = c .before .before .filled .ensures .1
+
+digit-of-requires : tie.Need-digit-of-requires Inv-loop μ-loop
+digit-of-requires c κs =
+    let z = c .before in
+    let p = c .before .before .before .before .before .before .before .before .before .pre in
+    (z .zeros .ensures .1 .1 (c .if2 .taken), p .0)
+
+-- the digit, which the machine reads back as it is
+module _ (c : tie.After-digit-of Inv-loop μ-loop) where
+  low-digit : c .digit-of .result ≡ digit (c .before .before .before .before .before .before .before .before .before .before .args .m) (pos (c .before .before .before .before .before .filled .result .low))
+  low-digit = c .digit-of .ensures
+
+  tiny : natAbs (c .digit-of .result) ≤ 31
+  tiny =
+      let f = c .before .before .before .before .before in
+      small (given (f .before .before)) (f .filled .result) (c .before .before .before .before .ended .ensures .1 (c .before .before .before .if1 .left)) (f .filled .ensures .1 .1) (full f)
+      (c .digit-of .result) low-digit
+
+  same : toZ w16 (ofZ w16 (c .digit-of .result)) ≡ c .digit-of .result
+  same = read-back (c .digit-of .result) (omega (arith, size (c .digit-of .result), tiny))
+
+  fits-byte : SFits w8 (c .digit-of .result)
+  fits-byte = record { sfits = omega (arith, size (c .digit-of .result), mag-size (c .digit-of .result), tiny) }
+
+cast-byte-of : tie.Need-cast-byte-of Inv-loop μ-loop
+cast-byte-of c = subst (SFits w8) (sym (same c)) (fits-byte c)
+
+byte-of-requires : tie.Need-byte-of-requires Inv-loop μ-loop
+byte-of-requires c κs = search needs
+
+slice-write-out : tie.Need-slice-write-out Inv-loop μ-loop
+slice-write-out c =
+    let f = c .before .before .before .before .before .before in
+    inside (given (f .before .before)) (f .filled .result) (c .before .before .before .before .before .ended .ensures .1 (c .before .before .before .before .if1 .left)) (f .filled .ensures .1 .1) (full f)
+
+less-requires : tie.Need-less-requires Inv-loop μ-loop
+less-requires c κs =
+    let f = c .before .before .before .before .before .before in
+    let h =
+    halved (given (f .before .before)) (f .filled .result) (c .before .before .before .before .before .ended .ensures .1 (c .before .before .before .before .if1 .left)) (f .filled .ensures .1 .1) (full f)
+    (c .before .digit-of .result) (low-digit (c .before))
+    in (
+      f .filled .ensures .1 .0,
+      (
+        omega (arith, f .filled .ensures .1 .1),
+        subst (λ (d : ℤ). (natAbs d ≤ 31) × ((k : ℕ) × (half (pos (f .filled .result .low) -ℤ d) ≡ pos k))) (sym (same (c .before))) (tiny (c .before), h),
+      ),
+    )
+
+loop-again : tie.Need-loop-again Inv-loop μ-loop
+loop-again c =
+    let f = c .before .before .before .before .before .before .before in
+    let d = c .before .before in
+    stored (given (f .before .before)) (f .filled .result) (c .before .before .before .before .before .before .ended .ensures .1 (c .before .before .before .before .before .if1 .left)) (f .filled .ensures .1 .1) (full f)
+    (d .digit-of .result) (low-digit d) (c .less .result) (c .before .byte-of .result)
+    (c .before .byte-of .ensures ∙ ap byteOf (ap (λ (x : ℤ). toZ w8 (ofZ w8 x)) (same d) ∙ toZ-ofZ (fits-byte d)))
+    (subst (λ (x : ℤ). Held (c .less .result) × ((c .less .result .at ≡ f .filled .result .at) × ((c .less .result .bits + 1 ≡ f .filled .result .bits) × (pos (c .less .result .low) ≡ half (pos (f .filled .result .low) -ℤ x)))))
+    (same d) (c .less .ensures))
+
+add-place : tie.Need-add-place Inv-loop μ-loop
+add-place c =
+    let a = c .before .before .before .before .before .before .before .before in
+    omega (arith, slice-write-out (c .before), a .loop .inv .1 .0, a .before .before .before .before .good)
+
+loop-less : tie.Need-loop-less Inv-loop μ-loop
+loop-less c = simp length-set (omega (arith, slice-write-out (c .before)))
+
+shifted-requires : tie.Need-shifted-requires Inv-loop μ-loop
+shifted-requires c κs =
+    let e = c .before .zeros .ensures in
+    (c .before .before .before .before .filled .ensures .1 .0, (e .0, e .1 .0))
+
+cast-place : tie.Need-cast-place Inv-loop μ-loop
+cast-place c = search needs
+
+loop-again-2 : tie.Need-loop-again-2 Inv-loop μ-loop
+loop-again-2 c =
+    let f = c .before .before .before .before .before in
+    let z = c .before .before .zeros in
+    skipped (given (f .before .before)) (f .filled .result) (c .before .before .before .before .ended .ensures .1 (c .before .before .before .if1 .left)) (f .filled .ensures .1 .1) (full f)
+    (c .shifted .result) (z .result) (z .ensures .1 .0) (c .shifted .ensures)
+
+add-place-2 : tie.Need-add-place-2 Inv-loop μ-loop
+add-place-2 c =
+    let a = c .before .before .before .before .before .before in
+    omega (arith, reached (given (a .before)) (c .shifted .result) (loop-again-2 c), a .loop .inv .1 .0, a .before .before .before .before .good)
+
+loop-less-2 : tie.Need-loop-less-2 Inv-loop μ-loop
+loop-less-2 c =
+    let a = c .before .before .before .before .before .before in
+    omega (arith, reached (given (a .before)) (c .shifted .result) (loop-again-2 c), c .before .if2 .left)
+
+pub write-digits-spec : {M : Type 1} → statement M
+write-digits-spec =
+    tie.close
+    (tie.spec
+    Inv-loop
+    μ-loop
+    new-requires
+    loop-holds
+    filled-requires
+    ended-requires
+    same-length
+    returns
+    zeros-requires
+    digit-of-requires
+    cast-byte-of
+    byte-of-requires
+    slice-write-out
+    less-requires
+    add-place
+    loop-less
+    loop-again
+    shifted-requires
+    cast-place
+    add-place-2
+    loop-less-2
+    loop-again-2)

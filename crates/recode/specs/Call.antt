@@ -1,0 +1,64 @@
+-- What the row and joint calls answer and leave in the buffers they are lent, for all input.
+use mathlib.Core.Bool.{Bool, true, false, _&&_, cond}
+use mathlib.Core.List.{List, [], _∷_, _++_, map}
+use Prim.Native.Nat.{ℕ, _+_, _-_, _*_, _%_, max}
+use lib.Dec.{ltb, leb, eqb}
+use lib.ListN as ListN
+use lib.ListN.{replicate}
+use lib.IntN.{ℤ, pos}
+use Rattle.digits.specs.Byte.{byteOf}
+use Rattle.digits.specs.Limits.{Limits}
+use Rattle.digits.specs.Scalar.{scalar}
+use Rattle.recode.specs.declared.answer.Recoded.{Recoded}
+use Rattle.recode.specs.declared.answer.Recoded.the-variants.{BadScalar, BadWindow, NoRoom, Written}
+use Rattle.recode.specs.Row.{row}
+
+-- the number of the question missed, 0 where none is
+abbrev pub number : Recoded → ℕ
+number BadScalar = 1
+number BadWindow = 2
+number NoRoom = 3
+number (Written n) = 0
+
+-- the length of what was written
+abbrev pub length : Recoded → ℕ
+length BadScalar = 0
+length BadWindow = 0
+length NoRoom = 0
+length (Written n) = n
+
+-- 1. has the scalar 1 to 66 bytes?
+abbrev pub sized : Limits → List ℕ → Bool
+sized limits s = ltb 0 (ListN.length s) && leb (ListN.length s) (limits .bytes)
+
+-- 2. is m odd, 1 to 31?
+abbrev pub isWindow : ℕ → Bool
+isWindow m = eqb (m % 2) 1 && leb m 31
+
+-- 3. has the digit buffer at least 8 × bytes + 1 places?
+abbrev pub roomy : ℕ → ℕ → Bool
+roomy bytes places = leb (8 * bytes + 1) places
+
+-- the answer of a row call: the first question missed, or the row's length
+unfoldable pub rowAnswer : Limits → List ℕ → ℕ → ℕ → Recoded
+rowAnswer limits s m places =
+    cond (sized limits s)
+    (cond (isWindow m)
+    (cond (roomy (ListN.length s) places) (Written (ListN.length (row m (pos (scalar s))))) NoRoom)
+    BadWindow)
+    BadScalar
+
+-- a buffer with the digits from place 0 on, and 0 at the unused places
+abbrev pub filled : List ℤ → List ℕ → List ℕ
+filled ds buffer = map byteOf ds ++ replicate (ListN.length buffer - ListN.length ds) 0
+
+-- the buffer after a call: filled, or as lent where a question was missed
+abbrev pub left : Recoded → List ℤ → List ℕ → List ℕ
+left BadScalar ds buffer = buffer
+left BadWindow ds buffer = buffer
+left NoRoom ds buffer = buffer
+left (Written n) ds buffer = filled ds buffer
+
+unfoldable pub rowBuffer : Limits → List ℕ → ℕ → List ℕ → List ℕ
+rowBuffer limits s m buffer =
+    left (rowAnswer limits s m (ListN.length buffer)) (row m (pos (scalar s))) buffer

@@ -1,0 +1,99 @@
+ghost use mathlib.Core.Path.{_≡_};
+ghost use Prim.Native.Nat.{ℕ, _+_, _*_, _/_, _%_, _^_, _<_, _≤_};
+ghost use lib.ListN.{getD};
+ghost use lib.IntN.{pos, natAbs, _-ℤ_};
+ghost use Rattle.digits.specs.Integer.{half};
+ghost use Rattle.recode.specs.Remainder.{remaining, Held};
+
+// The low bits of a running remainder, which is low + 2^bits × the bytes from `at` on.
+pub struct Low {
+    pub at: usize,
+    pub bits: u32,
+    pub low: u16,
+}
+
+// The byte at a place, and 0 past the end.
+fn byte_at(bytes: &[u8], at: usize) -> u16
+    ensures { λ r. ⌜ (r ≡ getD (now (bytes .entry)) at 0) × (r < 256) ⌝ }
+{
+    if at < bytes.len() {
+        bytes[at] as u16
+    } else {
+        0
+    }
+}
+
+impl Low {
+    // No bits taken yet.
+    pub fn new() -> Self
+        ensures { λ r. ⌜ (r .at ≡ 0) × ((r .bits ≡ 0) × (r .low ≡ 0)) ⌝ }
+    {
+        Low {
+            at: 0,
+            bits: 0,
+            low: 0,
+        }
+    }
+
+    // The same remainder with at least 6 low bits.
+    pub fn filled(self, bytes: &[u8]) -> Self
+        requires { ⌜ Held self ⌝ }
+        ensures { λ r. ⌜ (remaining (now (bytes .entry)) r ≡ remaining (now (bytes .entry)) self) × (Held r × (6 ≤ r .bits)) ⌝ }
+    {
+        let at = self.at;
+        let bits = self.bits;
+        if 6 <= bits {
+            return self;
+        }
+        if bytes.len() <= at {
+            return Low {
+                at: at,
+                bits: bits + 8,
+                low: self.low,
+            };
+        }
+        let byte = byte_at(bytes, at);
+        Low {
+            at: at + 1,
+            bits: bits + 8,
+            low: self.low + (byte << bits),
+        }
+    }
+
+    // How many of the low bits are zeros below the first one: all of them where there is none.
+    pub fn zeros(self) -> u32
+        requires { ⌜ Held self × (6 ≤ self .bits) ⌝ }
+        ensures { λ r. ⌜ (r ≤ self .bits) × ((self .low ≡ 2 ^ r * (self .low / 2 ^ r)) × (r ≡ 0 → self .low % 2 ≡ 1)) ⌝ }
+    {
+        let low = self.low;
+        if low == 0 {
+            self.bits
+        } else {
+            u16::trailing_zeros(low)
+        }
+    }
+
+    // The remainder without its lowest zeros.
+    pub fn shifted(self, zeros: u32) -> Self
+        requires { ⌜ Held self × ((zeros ≤ self .bits) × (self .low ≡ 2 ^ zeros * (self .low / 2 ^ zeros))) ⌝ }
+        ensures { λ r. ⌜ Held r × ((r .at ≡ self .at) × ((r .bits + zeros ≡ self .bits) × (r .low ≡ self .low / 2 ^ zeros))) ⌝ }
+    {
+        Low {
+            at: self.at,
+            bits: self.bits - zeros,
+            low: self.low >> zeros,
+        }
+    }
+
+    // The remainder less a digit, halved.
+    pub fn less(self, digit: i16) -> Self
+        requires { ⌜ Held self × ((1 ≤ self .bits) × ((natAbs digit ≤ 31) × ((k : ℕ) × (half (pos (self .low) -ℤ digit) ≡ pos k)))) ⌝ }
+        ensures { λ r. ⌜ Held r × ((r .at ≡ self .at) × ((r .bits + 1 ≡ self .bits) × (pos (r .low) ≡ half (pos (self .low) -ℤ digit)))) ⌝ }
+    {
+        Low {
+            at: self.at,
+            bits: self.bits - 1,
+            low: crate::digit::rest_of(self.low, digit),
+        }
+    }
+}

@@ -1,0 +1,103 @@
+ghost use mathlib.Core.Path.{_≡_};
+ghost use mathlib.Core.Bool.{true, false};
+ghost use Prim.Native.Nat.{_+_, _*_, _/_, _<_, _≤_};
+ghost use lib.IntN.{pos};
+ghost use lib.ListN.{length, replicate};
+ghost use Rattle.digits.specs.Limits.{card};
+ghost use Rattle.digits.specs.Scalar;
+ghost use Rattle.digits.specs.Scalar.{little, bitLength};
+ghost use Rattle.recode.specs.Call.{rowAnswer, rowBuffer, filled};
+ghost use Rattle.recode.specs.Residue.{width};
+ghost use Rattle.recode.specs.Row.{row};
+use crate::answer::Recoded;
+use crate::low::Low;
+
+// Whether nothing is left: no low bits, and none of the bytes that are in use.
+fn ended(low: Low, used: usize) -> bool
+    ensures { λ r. ⌜ (r ≡ true → (low .low ≡ 0) × (used ≤ low .at)) × (r ≡ false → low .low ≡ 0 → low .at < used) ⌝ }
+{
+    let at = low.at;
+    if low.low == 0 {
+        return used <= at;
+    }
+    false
+}
+
+// Writes the row of the bytes' number into places that hold 0, and returns its length. `used` counts the bytes up to the
+// top one that is not 0, and w is W of the window m.
+fn write_digits(bytes: &[u8], used: usize, m: u16, w: u32, out: &mut [u8]) -> usize
+    requires { ⌜ (1 ≤ m) × ((m ≤ 31) × (w ≡ width m)) ⌝ }
+    requires { ⌜ used ≡ (bitLength (little (now bytes)) + 7) / 8 ⌝ }
+    requires { ⌜ (now out ≡ replicate (length (now out)) 0) × (length (row m (pos (little (now bytes)))) ≤ length (now out)) ⌝ }
+    ensures { λ r. ⌜ r ≡ length (row m (pos (little (now (bytes .entry))))) ⌝ }
+    ensures { λ _. ⌜ now (out .exit) ≡ filled (row m (pos (little (now (bytes .entry))))) (now (out .entry)) ⌝ }
+{
+    let mut low = Low::new();
+    let mut place = 0;
+    loop {
+        let full = low.filled(bytes);
+        if ended(full, used) {
+            return place;
+        }
+        let zeros = full.zeros();
+        if zeros == 0 {
+            let digit = crate::digit::digit_of(full.low, m, w);
+            out[place] = digits::byte_of(digit as i8);
+            let next = full.less(digit);
+            low = next;
+            place += 1;
+        } else {
+            let next = full.shifted(zeros);
+            low = next;
+            place += zeros as usize;
+        }
+    }
+}
+
+// The bit length of a scalar, as one number.
+fn bits_of(scalar: &[u8]) -> usize
+    requires { ⌜ length (now scalar) ≤ 66 ⌝ }
+    ensures { λ r. ⌜ r ≡ bitLength (Scalar.scalar (now (scalar .entry))) ⌝ }
+{
+    let length = digits::bit_length(scalar);
+    8 * length.below + length.top as usize
+}
+
+// Writes the scalar's row for the window m and zeros above it, and returns the row's length. Of the buffer only the places
+// up to the bit length plus one are lent to the digits.
+fn write_row(scalar: &[u8], m: u16, out: &mut [u8]) -> usize
+    requires { ⌜ (length (now scalar) ≤ 66) × ((1 ≤ m) × ((m ≤ 31) × (8 * length (now scalar) + 1 ≤ length (now out)))) ⌝ }
+    ensures { λ r. ⌜ r ≡ length (row m (pos (Scalar.scalar (now (scalar .entry))))) ⌝ }
+    ensures { λ _. ⌜ now (out .exit) ≡ filled (row m (pos (Scalar.scalar (now (scalar .entry))))) (now (out .entry)) ⌝ }
+{
+    let bits = bits_of(scalar);
+    let used = (bits + 7) / 8;
+    let places = bits + 1;
+    let bytes = crate::buffer::copied(scalar);
+    crate::buffer::clear(out);
+    let w = crate::residue::width_of(m);
+    write_digits(&bytes, used, m, w, &mut out[..places])
+}
+
+// The row of a scalar for the window m: its digits, from place 0 on, in bytes of two's complement.
+pub fn row(scalar: &[u8], m: u32, digits: &mut [u8]) -> Recoded
+    ensures answer { λ r. ⌜ r ≡ rowAnswer card (now (scalar .entry)) m (length (now (digits .entry))) ⌝ }
+    ensures buffer { λ _. ⌜ now (digits .exit) ≡ rowBuffer card (now (scalar .entry)) m (now (digits .entry)) ⌝ }
+{
+    if scalar.len() == 0 {
+        return Recoded::BadScalar;
+    }
+    if 66 < scalar.len() {
+        return Recoded::BadScalar;
+    }
+    if m % 2 == 0 {
+        return Recoded::BadWindow;
+    }
+    if 31 < m {
+        return Recoded::BadWindow;
+    }
+    if digits.len() < 8 * scalar.len() + 1 {
+        return Recoded::NoRoom;
+    }
+    Recoded::Written(write_row(scalar, m as u16, digits))
+}
