@@ -23,6 +23,11 @@ abbrev pub other : Two → Two
 other P = Q
 other Q = P
 
+-- of two things, the one that goes with a row
+abbrev pub of : {A : Type 0} → A → A → Two → A
+of k l P = k
+of k l Q = l
+
 abbrev pub digit : Column → Two → ℤ
 digit c P = c .p
 digit c Q = c .q

@@ -7,3 +7,6 @@ pub mod LowRemainder
 pub mod RowTurns
 pub mod RowLoop
 pub mod RowAnswers
+pub mod JointTurns
+pub mod JointLoop
+pub mod JointAnswers

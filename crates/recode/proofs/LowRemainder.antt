@@ -78,7 +78,7 @@ remaining-some bytes s used b u e = go (s .low) refl
 
 -- at least 6 low bits give the digit
 module _ (bytes : List ℕ) (s : Low) (bits : 6 ≤ s .bits) where
-  sixty-four : remaining bytes s % 64 ≡ s .low % 64
+  pub sixty-four : remaining bytes s % 64 ≡ s .low % 64
   unfolding remaining
   sixty-four =
       let power : 2 ^ s .bits ≡ 64 * 2 ^ (s .bits - 6) = ap (λ (n : ℕ). 2 ^ n) (omega arith) ∙ pow-add 2 6 (s .bits - 6) in

@@ -11,6 +11,9 @@ use Rattle.digits.specs.Limits.{Limits}
 use Rattle.digits.specs.Scalar.{scalar}
 use Rattle.recode.specs.declared.answer.Recoded.{Recoded}
 use Rattle.recode.specs.declared.answer.Recoded.the-variants.{BadScalar, BadWindow, NoRoom, Written}
+use Rattle.digits.specs.Column
+use Rattle.digits.specs.Two.{Two, of, two}
+use Rattle.recode.specs.Joint.{joint}
 use Rattle.recode.specs.Row.{row}
 
 -- the number of the question missed, 0 where none is
@@ -62,3 +65,18 @@ left (Written n) ds buffer = filled ds buffer
 unfoldable pub rowBuffer : Limits → List ℕ → ℕ → List ℕ → List ℕ
 rowBuffer limits s m buffer =
     left (rowAnswer limits s m (ListN.length buffer)) (row m (pos (scalar s))) buffer
+
+-- the answer of a joint call: question 1 of both scalars, question 3 of both rows by the longer scalar, or the length
+unfoldable pub jointAnswer : Limits → List ℕ → List ℕ → ℕ → ℕ → Recoded
+jointAnswer limits s t places places′ =
+    cond (sized limits s && sized limits t)
+    (cond (roomy (max (ListN.length s) (ListN.length t)) places && roomy (max (ListN.length s) (ListN.length t)) places′)
+    (Written (ListN.length (joint (pos (scalar s)) (pos (scalar t)))))
+    NoRoom)
+    BadScalar
+
+-- one of the two buffers after a joint call
+unfoldable pub jointBuffer : Limits → Two → List ℕ → List ℕ → List ℕ → List ℕ → List ℕ
+jointBuffer limits r s t buffer buffer′ =
+    left (jointAnswer limits s t (ListN.length buffer) (ListN.length buffer′)) (Column.row two r (joint (pos (scalar s)) (pos (scalar t))))
+    (of buffer buffer′ r)

@@ -1,10 +1,12 @@
 // Rows of signed digits and the joint sparse form of two scalars.
 mod answer;
 mod buffer;
+mod columns;
 mod digit;
 mod low;
 mod residue;
 mod rows;
 
 pub use answer::Recoded;
+pub use columns::joint;
 pub use rows::row;

@@ -13,7 +13,7 @@ use crate::answer::Recoded;
 use crate::low::Low;
 
 // Whether nothing is left: no low bits, and none of the bytes that are in use.
-fn ended(low: Low, used: usize) -> bool
+pub fn ended(low: Low, used: usize) -> bool
     ensures { λ r. ⌜ (r ≡ true → (low .low ≡ 0) × (used ≤ low .at)) × (r ≡ false → low .low ≡ 0 → low .at < used) ⌝ }
 {
     let at = low.at;
@@ -55,7 +55,7 @@ fn write_digits(bytes: &[u8], used: usize, m: u16, w: u32, out: &mut [u8]) -> us
 }
 
 // The bit length of a scalar, as one number.
-fn bits_of(scalar: &[u8]) -> usize
+pub fn bits_of(scalar: &[u8]) -> usize
     requires { ⌜ length (now scalar) ≤ 66 ⌝ }
     ensures { λ r. ⌜ r ≡ bitLength (Scalar.scalar (now (scalar .entry))) ⌝ }
 {

@@ -1,0 +1,87 @@
+-- The turns of the column loop: the columns laid into the two buffers, followed by those of the remainders, are all columns.
+use mathlib.Core.Path.{_≡_, refl, sym, ap, ap₂, subst, _∙_}
+use mathlib.Core.List.{List, [], _∷_, _++_, map, map-append, append-assoc, append-nil}
+use Prim.Native.Nat.{ℕ, zero, suc, _+_, _≤_, _<_}
+use native.Mathlib.Omega.{arith}
+use lib.IntN.{ℤ, pos}
+use lib.ListN.{length, set, replicate, length-append, length-map}
+use Rattle.digits.specs.Byte.{byteOf}
+use Rattle.digits.specs.Column as Column
+use Rattle.digits.specs.Two as Two
+use Rattle.digits.specs.Two.{Two, P, Q, of, other, two}
+use Rattle.recode.specs.Call.{filled}
+use Rattle.recode.specs.Joint.{joint, column, digit, rest}
+use Rattle.recode.specs.JointRule.{BothZero, joint-unfold, joint-zero}
+use Rattle.recode.specs.JointValue.{column-digit}
+use Rattle.recode.proofs.Laid.{Laid, laid-none, laid-digit}
+
+-- done stands in the buffers, and the columns of k and l are still to come
+pub record Turn (k₀ l₀ n k l : ℕ) (out : Two → List ℕ) (place : ℕ) : Type 0 where
+  pub done : List Two.Column
+  pub laid : (r : Two) → Laid n (Column.row two r done) (out r) place
+  pub whole : joint (pos k₀) (pos l₀) ≡ done ++ joint (pos k) (pos l)
+
+row-append : (r : Two) (cs ds : List Two.Column) → Column.row two r (cs ++ ds) ≡ Column.row two r cs ++ Column.row two r ds
+unfolding Column.row
+row-append r cs ds = map-append (λ c. Two.digit c r) cs ds
+
+row-one : (r : Two) (c : Two.Column) → Column.row two r (c ∷ []) ≡ Two.digit c r ∷ []
+unfolding Column.row
+row-one r c = refl
+
+pub row-length : (r : Two) (cs : List Two.Column) → length (Column.row two r cs) ≡ length cs
+unfolding Column.row
+row-length r cs = length-map cs (λ c. Two.digit c r)
+
+-- the same buffers, written another way
+pub relaid : {k₀ l₀ n k l place : ℕ} {out out′ : Two → List ℕ} → ((r : Two) → out r ≡ out′ r) → Turn k₀ l₀ n k l out place → Turn k₀ l₀ n k l out′ place
+relaid {n = n} {place = place} e t =
+    record {
+      done = t .done;
+      laid = λ r. subst (λ (o : List ℕ). Laid n (Column.row two r (t .done)) o place) (e r) (t .laid r);
+      whole = t .whole;
+    }
+
+module _ (k₀ l₀ n : ℕ) (fits : length (joint (pos k₀) (pos l₀)) ≤ n) where
+  pub bound : {k l place : ℕ} {out : Two → List ℕ} → Turn k₀ l₀ n k l out place → place + length (joint (pos k) (pos l)) ≤ n
+  bound {k} {l} t =
+      omega (arith, ap length (t .whole), length-append (t .done) (joint (pos k) (pos l)), t .laid P .places, row-length P (t .done))
+
+  pub start : (out : Two → List ℕ) → ((r : Two) → out r ≡ replicate n 0) → Turn k₀ l₀ n k₀ l₀ out 0
+  unfolding Column.row
+  start out e = record { done = []; laid = λ r. laid-none n (out r) (e r); whole = refl }
+
+  pub room : {k l place : ℕ} {out : Two → List ℕ} → ¬ (BothZero (pos k) (pos l)) → Turn k₀ l₀ n k l out place → place < n
+  room {k} {l} some t = omega (arith, bound t, ap length (joint-unfold (pos k) (pos l) some))
+
+  -- a column is stored
+  pub store : {k l place : ℕ} {out : Two → List ℕ} (b : Two → ℕ) (k′ l′ : ℕ) → ¬ (BothZero (pos k) (pos l))
+      → ((r : Two) → b r ≡ byteOf (digit (of (pos k) (pos l) r) (of (pos l) (pos k) r)))
+      → pos k′ ≡ rest (pos k) (pos l) → pos l′ ≡ rest (pos l) (pos k) → Turn k₀ l₀ n k l out place
+      → Turn k₀ l₀ n k′ l′ (λ r. set (out r) place (b r)) (place + 1)
+  store {k} {l} {place} {out} b k′ l′ some e f g t =
+      let c = column (pos k) (pos l) in
+      record {
+        done = t .done ++ (column (pos k) (pos l) ∷ []);
+        laid =
+            λ r.
+            subst (λ (ds : List ℤ). Laid n ds (set (out r) place (b r)) (place + 1))
+            (sym (row-append r (t .done) (column (pos k) (pos l) ∷ []) ∙ ap (λ (ds : List ℤ). Column.row two r (t .done) ++ ds) (row-one r (column (pos k) (pos l)))))
+            (laid-digit n (Column.row two r (t .done)) (out r) place (b r) (Two.digit (column (pos k) (pos l)) r) (room some t)
+            (e r ∙ ap byteOf (sym (column-digit (pos k) (pos l) r))) (t .laid r));
+        whole =
+            t .whole
+            ∙ ap (λ (cs : List Two.Column). t .done ++ cs) (joint-unfold (pos k) (pos l) some ∙ rw (← f, ← g))
+            ∙ sym (append-assoc (t .done) (column (pos k) (pos l) ∷ []) (joint (pos k′) (pos l′)));
+      }
+
+  -- at 0, 0 the columns are done
+  pub stop : {place : ℕ} {out : Two → List ℕ} (out₀ : Two → List ℕ) → ((r : Two) → length (out₀ r) ≡ n) → Turn k₀ l₀ n 0 0 out place
+      → (place ≡ length (joint (pos k₀) (pos l₀))) × ((r : Two) → out r ≡ filled (Column.row two r (joint (pos k₀) (pos l₀))) (out₀ r))
+  stop {place} {out} out₀ e t =
+      let all : joint (pos k₀) (pos l₀) ≡ t .done =
+      t .whole ∙ ap (λ (cs : List Two.Column). t .done ++ cs) joint-zero ∙ append-nil (t .done)
+      in (
+        sym (ap length all ∙ sym (row-length P (t .done)) ∙ t .laid P .places),
+        λ r. t .laid r .buffer ∙ rw (all, e r, t .laid r .places),
+      )

@@ -1,0 +1,207 @@
+-- `write_columns` meets its contract. The loop's invariant: the columns that stand in the buffers, followed by those of the
+-- remainders, are all columns (JointLoop). The measure is the number of places left.
+use mathlib.Core.Path.{_≡_, refl, sym, ap, subst, _∙_}
+use Prim.Native.Nat.{ℕ, _+_, _-_, _≤_, _<_}
+use native.Mathlib.Omega.{arith}
+use borrow.Author.Needs.{needs}
+use lib.IntN.{ℤ, pos, natAbs, _-ℤ_}
+use lib.ListN.{length, replicate, length-set, length-replicate}
+use mir.Syntax.{w8, w16}
+use mir.Val.{SFits, toZ, ofZ}
+use mir.Facts.{toZ-ofZ}
+use Rattle.digits.specs.Byte.{byteOf}
+use Rattle.digits.specs.Integer.{half, size, mag-size}
+use Rattle.digits.specs.Machine.{read-back}
+use Rattle.digits.specs.Two.{Two, P, Q, of}
+use Rattle.recode.specs.declared.low.Low.{Low}
+use Rattle.recode.specs.Joint.{digit}
+use Rattle.recode.specs.Remainder.{Held}
+use Rattle.recode.specs.Test.{rows}
+use Rattle.recode.proofs.JointLoop.{Given, State, begin, refill, finish, inside, small, halved, stored}
+use Rattle.recode.proofs.columns.write_columns.Statement.{statement}
+use Rattle.recode.proofs.columns.write_columns.Tie as tie
+
+abbrev Inv-loop : tie.InvT-loop
+Inv-loop k l k-used l-used k-out₀ l-out₀ k-low₀ l-low₀ place₀ k-out l-out k-low l-low place =
+    State k l k-out₀ k-out l-out k-low l-low place
+
+abbrev μ-loop : tie.MeasureT-loop
+μ-loop k l k-used l-used k-out₀ l-out₀ k-low₀ l-low₀ place₀ k-out l-out k-low l-low place = length k-out - place
+
+module _ (c : tie.After-new2 Inv-loop μ-loop) where
+  given : Given (c .before .before .before .before .before .before .args .k .now) (c .before .before .before .before .before .before .args .l .now) (c .before .before .before .before .before .before .args .k-used) (c .before .before .before .before .before .before .args .l-used) (c .before .before .before .before .before .before .args .k-out .now) (c .before .before .before .before .before .before .args .l-out .now)
+  given =
+      let p = c .before .before .before .before .before .before .pre in
+      record {
+        k-bytes = λ i. c .before .before .before .before .before .shared-slice-known .given i .fits;
+        l-bytes = λ i. c .before .before .before .before .shared-slice-known2 .given i .fits;
+        k-in-use = p .0 .0;
+        l-in-use = p .0 .1;
+        cleared = rows (λ (r : Two). of (c .before .before .before .before .before .before .args .k-out .now) (c .before .before .before .before .before .before .args .l-out .now) r ≡ replicate (length (c .before .before .before .before .before .before .args .k-out .now)) 0) (p .1 .0 .0, p .1 .0 .1);
+        equal = ap length (p .1 .0 .1) ∙ length-replicate (length (c .before .before .before .before .before .before .args .k-out .now)) 0;
+        fits = p .1 .1;
+      }
+
+-- the state once the low bits are filled up
+module _ (c : tie.After-filled2 Inv-loop μ-loop) where
+  full : State (c .before .before .before .before .before .before .before .before .before .args .k .now) (c .before .before .before .before .before .before .before .before .before .args .l .now) (c .before .before .before .before .before .before .before .before .before .args .k-out .now) (c .before .before .loop .k-out) (c .before .before .loop .l-out) (c .before .filled .result) (c .filled2 .result) (c .before .before .loop .place)
+  full =
+      refill (given (c .before .before .before)) (c .before .before .loop .k-low) (c .before .filled .result) (c .before .before .loop .l-low) (c .filled2 .result) (c .before .filled .ensures .0)
+      (c .before .filled .ensures .1 .0) (c .filled2 .ensures .0) (c .filled2 .ensures .1 .0) (c .before .before .loop .inv)
+
+-- a digit of −1, 0 or 1, which the machine reads back as it is
+module _ (d : ℤ) (h : natAbs d ≤ 1) where
+  same : toZ w16 (ofZ w16 d) ≡ d
+  same = read-back d (omega (arith, size d))
+
+  fits-byte : SFits w8 d
+  fits-byte = record { sfits = omega (arith, size d, mag-size d) }
+
+  cast-fits : SFits w8 (toZ w16 (ofZ w16 d))
+  cast-fits = subst (SFits w8) (sym same) fits-byte
+
+  as-byte : toZ w8 (ofZ w8 (toZ w16 (ofZ w16 d))) ≡ d
+  as-byte = ap (λ (x : ℤ). toZ w8 (ofZ w8 x)) same ∙ toZ-ofZ fits-byte
+
+  -- what `less` asks of it, and what it says
+  less-asks : (s : Low) → Held s → 6 ≤ s .bits → (k : ℕ) × (half (pos (s .low) -ℤ d) ≡ pos k)
+      → Held s × ((1 ≤ s .bits) × ((natAbs (toZ w16 (ofZ w16 d)) ≤ 31) × ((k : ℕ) × (half (pos (s .low) -ℤ toZ w16 (ofZ w16 d)) ≡ pos k))))
+  less-asks s g b k =
+      (g, (omega arith, subst (λ (x : ℤ). (natAbs x ≤ 31) × ((k : ℕ) × (half (pos (s .low) -ℤ x) ≡ pos k))) (sym same) (omega arith, k)))
+
+  less-says : (s t : Low) → Held t × ((t .at ≡ s .at) × ((t .bits + 1 ≡ s .bits) × (pos (t .low) ≡ half (pos (s .low) -ℤ toZ w16 (ofZ w16 d)))))
+      → Held t × ((t .at ≡ s .at) × ((t .bits + 1 ≡ s .bits) × (pos (t .low) ≡ half (pos (s .low) -ℤ d))))
+  less-says s t e = (e .0, (e .1 .0, (e .1 .1 .0, e .1 .1 .1 ∙ ap (λ (x : ℤ). half (pos (s .low) -ℤ x)) same)))
+
+new-requires : tie.Need-new-requires Inv-loop μ-loop
+new-requires c κs = search needs
+
+new-requires-2 : tie.Need-new-requires-2 Inv-loop μ-loop
+new-requires-2 c κs = search needs
+
+loop-holds : tie.Need-loop-holds Inv-loop μ-loop
+loop-holds c = begin (given c) (c .before .new .result) (c .new2 .result) (c .before .new .ensures) (c .new2 .ensures)
+
+filled-requires : tie.Need-filled-requires Inv-loop μ-loop
+filled-requires c κs = c .loop .inv .k-held
+
+filled-requires-2 : tie.Need-filled-requires-2 Inv-loop μ-loop
+filled-requires-2 c κs = c .before .loop .inv .l-held
+
+both-ended-requires : tie.Need-both-ended-requires Inv-loop μ-loop
+both-ended-requires c κs = search needs
+
+same-length : tie.Need-same-length Inv-loop μ-loop
+same-length c = c .before .before .before .before .loop .inv .k-long
+
+same-length-2 : tie.Need-same-length-2 Inv-loop μ-loop
+same-length-2 c = c .before .before .before .before .loop .inv .l-long ∙ sym (given (c .before .before .before .before .before) .equal)
+
+returns : tie.Need-returns Inv-loop μ-loop
+returns c =
+    let f = c .before .before in
+    let e = finish (given (f .before .before .before)) (f .before .filled .result) (f .filled2 .result) (c .before .both-ended .ensures .0 (c .if1 .taken)) (full f) in
+    (e .0, (e .1 P, e .1 Q))
+
+joint-digit-requires : tie.Need-joint-digit-requires Inv-loop μ-loop
+joint-digit-requires c κs = search needs
+
+joint-digit-requires-2 : tie.Need-joint-digit-requires-2 Inv-loop μ-loop
+joint-digit-requires-2 c κs = search needs
+
+module _ (c : tie.After-joint-digit2 Inv-loop μ-loop) where
+  k-tiny : natAbs (c .before .joint-digit .result) ≤ 1
+  k-tiny =
+      let f = c .before .before .before .before in
+      small (f .before .before .before .before .before .before .before .before .before .args .k .now) (f .before .before .before .before .before .before .before .before .before .args .l .now) (f .before .filled .result) (f .filled2 .result) (c .before .joint-digit .result) (c .before .joint-digit .ensures)
+
+  l-tiny : natAbs (c .joint-digit2 .result) ≤ 1
+  l-tiny =
+      let f = c .before .before .before .before in
+      small (f .before .before .before .before .before .before .before .before .before .args .l .now) (f .before .before .before .before .before .before .before .before .before .args .k .now) (f .filled2 .result) (f .before .filled .result) (c .joint-digit2 .result) (c .joint-digit2 .ensures)
+
+  within : c .before .before .before .before .before .before .loop .place < length (c .before .before .before .before .before .before .before .before .before .before .before .before .before .args .k-out .now)
+  within =
+      let f = c .before .before .before .before in
+      inside (given (f .before .before .before)) (f .before .filled .result) (f .filled2 .result) (c .before .before .before .both-ended .ensures .1 (c .before .before .if1 .left)) (full f)
+
+cast-byte-of : tie.Need-cast-byte-of Inv-loop μ-loop
+cast-byte-of c = cast-fits (c .before .joint-digit .result) (k-tiny c)
+
+byte-of-requires : tie.Need-byte-of-requires Inv-loop μ-loop
+byte-of-requires c κs = search needs
+
+slice-write-k-out : tie.Need-slice-write-k-out Inv-loop μ-loop
+slice-write-k-out c = omega (arith, within (c .before), c .before .before .before .before .before .before .before .loop .inv .k-long)
+
+cast-byte-of-2 : tie.Need-cast-byte-of-2 Inv-loop μ-loop
+cast-byte-of-2 c = cast-fits (c .before .joint-digit2 .result) (l-tiny (c .before))
+
+byte-of-requires-2 : tie.Need-byte-of-requires-2 Inv-loop μ-loop
+byte-of-requires-2 c κs = search needs
+
+slice-write-l-out : tie.Need-slice-write-l-out Inv-loop μ-loop
+slice-write-l-out c = omega (arith, within (c .before .before), c .before .before .before .before .before .before .before .before .loop .inv .l-long)
+
+less-requires : tie.Need-less-requires Inv-loop μ-loop
+less-requires c κs =
+    let d = c .before .before in
+    let f = d .before .before .before .before in
+    less-asks (d .before .joint-digit .result) (k-tiny d) (f .before .filled .result) (f .before .filled .ensures .1 .0) (f .before .filled .ensures .1 .1)
+    (halved (f .before .before .before .before .before .before .before .before .before .args .k .now) (f .before .before .before .before .before .before .before .before .before .args .l .now) (f .before .filled .result) (f .filled2 .result) (d .before .joint-digit .result) (d .before .joint-digit .ensures))
+
+less-requires-2 : tie.Need-less-requires-2 Inv-loop μ-loop
+less-requires-2 c κs =
+    let d = c .before .before .before in
+    let f = d .before .before .before .before in
+    less-asks (d .joint-digit2 .result) (l-tiny d) (f .filled2 .result) (f .filled2 .ensures .1 .0) (f .filled2 .ensures .1 .1)
+    (halved (f .before .before .before .before .before .before .before .before .before .args .l .now) (f .before .before .before .before .before .before .before .before .before .args .k .now) (f .filled2 .result) (f .before .filled .result) (d .joint-digit2 .result) (d .joint-digit2 .ensures))
+
+add-place : tie.Need-add-place Inv-loop μ-loop
+add-place c = omega (arith, within (c .before .before .before .before), c .before .before .before .before .before .before .before .before .before .before .before .before .before .before .before .before .before .good)
+
+loop-less : tie.Need-loop-less Inv-loop μ-loop
+loop-less c = simp length-set (omega (arith, within (c .before .before .before .before), c .before .before .before .before .before .before .before .before .before .before .loop .inv .k-long))
+
+loop-again : tie.Need-loop-again Inv-loop μ-loop
+loop-again c =
+    let d = c .before .before .before .before in
+    let f = d .before .before .before .before in
+    let s = f .before .filled .result in
+    let t = f .filled2 .result in
+    stored (given (f .before .before .before)) s t (d .before .before .before .both-ended .ensures .1 (d .before .before .if1 .left)) (full f) (f .before .filled .ensures .1 .1) (f .filled2 .ensures .1 .1)
+    (d .before .joint-digit .result) (d .joint-digit2 .result) (d .before .joint-digit .ensures) (d .joint-digit2 .ensures)
+    (c .before .before .before .byte-of .result) (c .before .before .byte-of2 .result)
+    (c .before .before .before .byte-of .ensures ∙ ap byteOf (as-byte (d .before .joint-digit .result) (k-tiny d)))
+    (c .before .before .byte-of2 .ensures ∙ ap byteOf (as-byte (d .joint-digit2 .result) (l-tiny d)))
+    (c .before .less .result) (c .less2 .result) (less-says (d .before .joint-digit .result) (k-tiny d) s (c .before .less .result) (c .before .less .ensures))
+    (less-says (d .joint-digit2 .result) (l-tiny d) t (c .less2 .result) (c .less2 .ensures))
+
+pub write-columns-spec : {M : Type 1} → statement M
+write-columns-spec =
+    tie.close
+    (tie.spec
+    Inv-loop
+    μ-loop
+    new-requires
+    new-requires-2
+    loop-holds
+    filled-requires
+    filled-requires-2
+    both-ended-requires
+    same-length
+    same-length-2
+    returns
+    joint-digit-requires
+    joint-digit-requires-2
+    cast-byte-of
+    byte-of-requires
+    slice-write-k-out
+    cast-byte-of-2
+    byte-of-requires-2
+    slice-write-l-out
+    less-requires
+    less-requires-2
+    add-place
+    loop-less
+    loop-again)

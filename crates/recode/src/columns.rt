@@ -1,0 +1,150 @@
+ghost use mathlib.Core.Path.{_≡_};
+ghost use mathlib.Core.Bool.{true, false};
+ghost use mathlib.Core.Logic.{_⊎_};
+ghost use Prim.Native.Nat.{_+_, _*_, _/_, _<_, _≤_, max};
+ghost use lib.IntN.{pos};
+ghost use lib.ListN.{length, replicate};
+ghost use Rattle.digits.specs.Column;
+ghost use Rattle.digits.specs.Limits.{card};
+ghost use Rattle.digits.specs.Scalar;
+ghost use Rattle.digits.specs.Scalar.{little, bitLength};
+ghost use Rattle.digits.specs.Two.{P, Q, two};
+ghost use Rattle.recode.specs.Call.{jointAnswer, jointBuffer, filled};
+ghost use Rattle.recode.specs.Joint;
+use crate::answer::Recoded;
+use crate::low::Low;
+
+// Whether x is 3 or 5 modulo 8 beside a y that is 2 modulo 4.
+fn turns(x: u16, y: u16) -> bool
+    ensures { λ r. ⌜ r ≡ Joint.turns (pos x) (pos y) ⌝ }
+{
+    if y % 4 != 2 {
+        return false;
+    }
+    if x % 8 == 3 {
+        return true;
+    }
+    x % 8 == 5
+}
+
+// The digit of x beside y in a joint column.
+fn joint_digit(x: u16, y: u16) -> i16
+    ensures { λ r. ⌜ r ≡ Joint.digit (pos x) (pos y) ⌝ }
+{
+    if x % 2 == 0 {
+        return 0;
+    }
+    let plain = crate::residue::residue_of(x, 2);
+    if turns(x, y) { -plain } else { plain }
+}
+
+// Whether nothing is left of either number.
+fn both_ended(k: Low, l: Low, k_used: usize, l_used: usize) -> bool
+    ensures { λ r. ⌜ (r ≡ true → ((k .low ≡ 0) × («k_used» ≤ k .at)) × ((l .low ≡ 0) × («l_used» ≤ l .at))) × (r ≡ false → (k .low ≡ 0 → k .at < «k_used») ⊎ (l .low ≡ 0 → l .at < «l_used»)) ⌝ }
+{
+    if crate::rows::ended(k, k_used) {
+        return crate::rows::ended(l, l_used);
+    }
+    false
+}
+
+// Writes the joint columns of two numbers' bytes into places that hold 0, and returns how many there are. `k_used` and
+// `l_used` count the bytes up to the top one that is not 0.
+fn write_columns(
+    k: &[u8],
+    l: &[u8],
+    k_used: usize,
+    l_used: usize,
+    k_out: &mut [u8],
+    l_out: &mut [u8],
+) -> usize
+    requires { ⌜ («k_used» ≡ (bitLength (little (now k)) + 7) / 8) × («l_used» ≡ (bitLength (little (now l)) + 7) / 8) ⌝ }
+    requires { ⌜ (now «k_out» ≡ replicate (length (now «k_out»)) 0) × (now «l_out» ≡ replicate (length (now «k_out»)) 0) ⌝ }
+    requires { ⌜ length (Joint.joint (pos (little (now k))) (pos (little (now l)))) ≤ length (now «k_out») ⌝ }
+    ensures { λ r. ⌜ r ≡ length (Joint.joint (pos (little (now (k .entry)))) (pos (little (now (l .entry))))) ⌝ }
+    ensures { λ _. ⌜ now («k_out» .exit) ≡ filled (Column.row two P (Joint.joint (pos (little (now (k .entry)))) (pos (little (now (l .entry)))))) (now («k_out» .entry)) ⌝ }
+    ensures { λ _. ⌜ now («l_out» .exit) ≡ filled (Column.row two Q (Joint.joint (pos (little (now (k .entry)))) (pos (little (now (l .entry)))))) (now («l_out» .entry)) ⌝ }
+{
+    let mut k_low = Low::new();
+    let mut l_low = Low::new();
+    let mut place = 0;
+    loop {
+        let k_full = k_low.filled(k);
+        let l_full = l_low.filled(l);
+        if both_ended(k_full, l_full, k_used, l_used) {
+            return place;
+        }
+        let k_digit = joint_digit(k_full.low, l_full.low);
+        let l_digit = joint_digit(l_full.low, k_full.low);
+        k_out[place] = digits::byte_of(k_digit as i8);
+        l_out[place] = digits::byte_of(l_digit as i8);
+        let k_next = k_full.less(k_digit);
+        let l_next = l_full.less(l_digit);
+        k_low = k_next;
+        l_low = l_next;
+        place += 1;
+    }
+}
+
+// The larger of two numbers.
+fn larger(a: usize, b: usize) -> usize
+    ensures { λ r. ⌜ r ≡ max a b ⌝ }
+{
+    if a < b { b } else { a }
+}
+
+// Writes the joint columns of two scalars, a row into each buffer, and zeros above them, and returns how many there are. Of
+// each buffer only the places up to the longer bit length plus one are lent to the digits.
+fn write_joint(k: &[u8], l: &[u8], k_out: &mut [u8], l_out: &mut [u8]) -> usize
+    requires { ⌜ (length (now k) ≤ 66) × (length (now l) ≤ 66) ⌝ }
+    requires { ⌜ (8 * max (length (now k)) (length (now l)) + 1 ≤ length (now «k_out»)) × (8 * max (length (now k)) (length (now l)) + 1 ≤ length (now «l_out»)) ⌝ }
+    ensures { λ r. ⌜ r ≡ length (Joint.joint (pos (Scalar.scalar (now (k .entry)))) (pos (Scalar.scalar (now (l .entry))))) ⌝ }
+    ensures { λ _. ⌜ now («k_out» .exit) ≡ filled (Column.row two P (Joint.joint (pos (Scalar.scalar (now (k .entry)))) (pos (Scalar.scalar (now (l .entry)))))) (now («k_out» .entry)) ⌝ }
+    ensures { λ _. ⌜ now («l_out» .exit) ≡ filled (Column.row two Q (Joint.joint (pos (Scalar.scalar (now (k .entry)))) (pos (Scalar.scalar (now (l .entry)))))) (now («l_out» .entry)) ⌝ }
+{
+    let k_bits = crate::rows::bits_of(k);
+    let l_bits = crate::rows::bits_of(l);
+    let places = larger(k_bits, l_bits) + 1;
+    let k_bytes = crate::buffer::copied(k);
+    let l_bytes = crate::buffer::copied(l);
+    crate::buffer::clear(k_out);
+    crate::buffer::clear(l_out);
+    let k_used = (k_bits + 7) / 8;
+    let l_used = (l_bits + 7) / 8;
+    write_columns(
+        &k_bytes,
+        &l_bytes,
+        k_used,
+        l_used,
+        &mut k_out[..places],
+        &mut l_out[..places],
+    )
+}
+
+// The joint sparse form of two scalars: the digits of each row, from place 0 on, in bytes of two's complement.
+pub fn joint(k: &[u8], l: &[u8], k_digits: &mut [u8], l_digits: &mut [u8]) -> Recoded
+    ensures answer { λ r. ⌜ r ≡ jointAnswer card (now (k .entry)) (now (l .entry)) (length (now («k_digits» .entry))) (length (now («l_digits» .entry))) ⌝ }
+    ensures first { λ _. ⌜ now («k_digits» .exit) ≡ jointBuffer card P (now (k .entry)) (now (l .entry)) (now («k_digits» .entry)) (now («l_digits» .entry)) ⌝ }
+    ensures second { λ _. ⌜ now («l_digits» .exit) ≡ jointBuffer card Q (now (k .entry)) (now (l .entry)) (now («k_digits» .entry)) (now («l_digits» .entry)) ⌝ }
+{
+    if k.len() == 0 {
+        return Recoded::BadScalar;
+    }
+    if 66 < k.len() {
+        return Recoded::BadScalar;
+    }
+    if l.len() == 0 {
+        return Recoded::BadScalar;
+    }
+    if 66 < l.len() {
+        return Recoded::BadScalar;
+    }
+    let room = 8 * larger(k.len(), l.len()) + 1;
+    if k_digits.len() < room {
+        return Recoded::NoRoom;
+    }
+    if l_digits.len() < room {
+        return Recoded::NoRoom;
+    }
+    Recoded::Written(write_joint(k, l, k_digits, l_digits))
+}
