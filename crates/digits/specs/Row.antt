@@ -1,6 +1,8 @@
 -- Rows: lists of signed digits, place 0 first.
 use mathlib.Core.Path.{_≡_}
+use mathlib.Core.Bool.{Bool, _&&_}
 use mathlib.Core.List.{List, [], _∷_}
+use lib.Dec.{eqb, leb}
 use Prim.Native.Nat.{ℕ, zero, suc, _+_, _*_, _%_, _≤_}
 use native.Mathlib.Omega.{arith}
 use lib.IntN.{ℤ, pos, negsuc, _+ℤ_, natAbs}
@@ -20,6 +22,13 @@ count (negsuc n) = 1
 unfoldable pub weight : List ℤ → ℕ
 weight [] = 0
 weight (d ∷ ds) = count d + weight ds
+
+-- a window is an odd number from 1 to 31
+abbrev pub widest : ℕ
+widest = 31
+
+abbrev pub isWindow : ℕ → Bool
+isWindow m = eqb (m % 2) 1 && leb m widest
 
 -- the digits of a window m: 0 and the odd numbers from −m to m
 pub data Digit (m : ℕ) : ℤ → Type 0 where

@@ -1,13 +1,14 @@
 -- What the row and joint calls answer and leave in the buffers they are lent, for all input.
 use mathlib.Core.Bool.{Bool, true, false, _&&_, cond}
 use mathlib.Core.List.{List, [], _∷_, _++_, map}
-use Prim.Native.Nat.{ℕ, _+_, _-_, _*_, _%_, max}
-use lib.Dec.{ltb, leb, eqb}
+use Prim.Native.Nat.{ℕ, _+_, _-_, _*_, max}
+use lib.Dec.{ltb, leb}
 use lib.ListN as ListN
 use lib.ListN.{replicate}
 use lib.IntN.{ℤ, pos}
 use Rattle.digits.specs.Byte.{byteOf}
 use Rattle.digits.specs.Limits.{Limits}
+use Rattle.digits.specs.Row.{isWindow}
 use Rattle.digits.specs.Scalar.{scalar}
 use Rattle.recode.specs.declared.answer.Recoded.{Recoded}
 use Rattle.recode.specs.declared.answer.Recoded.the-variants.{BadScalar, BadWindow, NoRoom, Written}
@@ -34,15 +35,11 @@ length (Written n) = n
 abbrev pub sized : Limits → List ℕ → Bool
 sized limits s = ltb 0 (ListN.length s) && leb (ListN.length s) (limits .bytes)
 
--- 2. is m odd, 1 to 31?
-abbrev pub isWindow : ℕ → Bool
-isWindow m = eqb (m % 2) 1 && leb m 31
-
 -- 3. has the digit buffer at least 8 × bytes + 1 places?
 abbrev pub roomy : ℕ → ℕ → Bool
 roomy bytes places = leb (8 * bytes + 1) places
 
--- the answer of a row call: the first question missed, or the row's length
+-- the answer of a row call: the first question missed, or the row's length; question 2 is whether m is a window
 unfoldable pub rowAnswer : Limits → List ℕ → ℕ → ℕ → Recoded
 rowAnswer limits s m places =
     cond (sized limits s)

@@ -1,0 +1,74 @@
+-- Plans: the slots that each needs, the points of its T lines, and what these cost.
+use mathlib.Core.Bool.{Bool, _&&_, cond}
+use mathlib.Core.List.{List, [], _∷_, _++_, map}
+use Prim.Native.Nat.{ℕ, zero, suc, _+_, _-_, _/_, _%_}
+use lib.Dec.{eqb, leb}
+use lib.IntN.{ℤ, pos, negsuc}
+use Rattle.digits.specs.Two.{Column}
+use Rattle.sheet.specs.declared.Plan.{Plan}
+use Rattle.sheet.specs.declared.Plan.the-variants.{J, I}
+use Rattle.sheet.specs.declared.Largest.{Largest}
+
+-- a point aP + bQ: the pair of its numbers, as a column has them
+abbrev pub Point : Type 0
+Point = Column
+
+-- aP + bQ
+abbrev pub point : ℤ → ℤ → Point
+point a b = record { p = a; q = b }
+
+-- the highest limit of slots
+abbrev pub mostSlots : ℕ
+mostSlots = 30
+
+-- the slots that a plan needs
+abbrev pub slots : Plan → ℕ
+slots J = 2
+slots (I m1 m2) = (m1 + m2 - 2) / 2
+
+-- a limit of slots is at most 30
+abbrev pub isLimit : ℕ → Bool
+isLimit limit = leb limit mostSlots
+
+-- a plan needs no more slots than the limit
+abbrev pub isWithin : Plan → ℕ → Bool
+isWithin p limit = leb (slots p) limit
+
+-- how many odd multiples there are from 3 to m
+abbrev pub stored : ℕ → ℕ
+stored m = (m - 1) / 2
+
+-- n odd numbers from d on
+unfoldable pub odds : ℕ → ℕ → List ℕ
+odds d zero = []
+odds d (suc n) = d ∷ odds (2 + d) n
+
+-- what fills the table for n odd multiples from 3 on: if there are any, 2 and then these
+abbrev pub multiples : ℕ → List ℕ
+multiples zero = []
+multiples (suc n) = 2 ∷ odds 3 (suc n)
+
+-- the points of the plan's own T lines, in order
+abbrev pub tables : Plan → List Point
+tables J = point (pos 1) (pos 1) ∷ point (pos 1) (negsuc 0) ∷ []
+tables (I m1 m2) =
+    map (λ n. point (pos n) (pos 0)) (multiples (stored m1)) ++ map (λ n. point (pos 0) (pos n)) (multiples (stored m2))
+
+-- the additions that fill the table
+abbrev pub tableAdditions : Plan → ℕ
+tableAdditions J = 2
+tableAdditions (I m1 m2) = stored m1 + stored m2
+
+-- twice the point is there for a window of 3 or more
+abbrev pub doubled : ℕ → ℕ
+doubled m = cond (leb 3 m) 1 0
+
+-- the doublings that fill the table
+abbrev pub tableDoublings : Plan → ℕ
+tableDoublings J = 0
+tableDoublings (I m1 m2) = doubled m1 + doubled m2
+
+-- the largest digits that a plan has for P and for Q
+abbrev pub largest : Plan → Largest
+largest J = record { p = 1; q = 1 }
+largest (I m1 m2) = record { p = m1; q = m2 }

@@ -1,0 +1,4 @@
+// Sheets of a named plan.
+pub fn zero() -> u8 {
+    0
+}
