@@ -21,3 +21,4 @@ pub mod JointFewest
 pub mod JointLength
 pub mod Remainder
 pub mod Call
+pub mod Promise

@@ -1,0 +1,98 @@
+-- What is promised of rows and joint sparse forms, in one place. The definitions are those of Residue, Row and Joint and of
+-- digits; the proofs are in the files that the answers name.
+use mathlib.Core.Path.{_≡_}
+use mathlib.Core.Logic.{_≢_}
+use mathlib.Core.List.{List}
+use Prim.Native.Nat.{ℕ, suc, _+_, _-_, _%_, _^_, _≤_, _<_, max}
+use lib.IntN.{ℤ, pos, natAbs}
+use lib.ListN.{length, getD}
+use Rattle.digits.specs.Row.{value, weight, Over}
+use Rattle.digits.specs.Column as Columns
+use Rattle.digits.specs.Scalar.{bitLength}
+use Rattle.digits.specs.Two.{Column, P, Q, two}
+use Rattle.recode.specs.Residue.{Residue, residue, width}
+use Rattle.recode.specs.Row.{RowRule, row}
+use Rattle.recode.specs.Joint.{Keeps, Topped, joint}
+use Rattle.recode.specs.ResidueOnly
+use Rattle.recode.specs.Width
+use Rattle.recode.specs.RowOnly
+use Rattle.recode.specs.RowValue
+use Rattle.recode.specs.RowLength
+use Rattle.recode.specs.RowFewest
+use Rattle.recode.specs.JointValue
+use Rattle.recode.specs.JointKeeps
+use Rattle.recode.specs.JointUnique
+use Rattle.recode.specs.JointFewest
+use Rattle.recode.specs.JointLength
+
+-- ── One row, for every window m ─────────────────────────────────────────────────────────────
+
+-- W is the smallest number with m < 2^(W−1)
+pub width-least : (m : ℕ) → 1 ≤ m → (m < 2 ^ (width m - 1)) × ((v : ℕ) → m < 2 ^ (v - 1) → width m ≤ v)
+width-least = Width.width-least
+
+-- an odd c has exactly one odd r with −2^(w−1) < r < 2^(w−1) and c − r divisible by 2^w
+pub residue-meets : (w : ℕ) (c : ℤ) → 2 ≤ w → natAbs c % 2 ≡ 1 → Residue w c (residue w c)
+residue-meets = ResidueOnly.residue-meets
+
+pub residue-only : (w : ℕ) (c r s : ℤ) → 1 ≤ w → Residue w c r → Residue w c s → r ≡ s
+residue-only = ResidueOnly.residue-only
+
+-- the row meets 01's rule, and nothing else does
+pub row-meets : (m : ℕ) (c : ℤ) → 1 ≤ m → RowRule m c (row m c)
+row-meets = RowOnly.row-meets
+
+pub row-only : (m : ℕ) (c : ℤ) (ds : List ℤ) → 1 ≤ m → RowRule m c ds → ds ≡ row m c
+row-only = RowOnly.row-only
+
+-- its digits are the window's
+pub row-digits : (m : ℕ) (c : ℤ) → 1 ≤ m → Over m (row m c)
+row-digits = RowValue.row-digits
+
+-- it reads back to c
+pub row-value : (m : ℕ) (c : ℤ) → 1 ≤ m → value (row m c) ≡ c
+row-value = RowValue.row-value
+
+-- its top digit is not 0
+pub row-top : (m : ℕ) (c : ℤ) → 1 ≤ m → (i : ℕ) → length (row m c) ≡ suc i → getD (row m c) i (pos 0) ≢ pos 0
+row-top = RowValue.row-top
+
+-- it never has more places than the scalar's bit length plus one
+pub row-length : (m n : ℕ) → 1 ≤ m → length (row m (pos n)) ≤ bitLength n + 1
+row-length = RowLength.row-length
+
+-- no row over the same digits has fewer non-zero ones
+pub row-fewest : (m : ℕ) (c : ℤ) (ds : List ℤ) → 1 ≤ m → Over m ds → value ds ≡ c → weight (row m c) ≤ weight ds
+row-fewest = RowFewest.row-fewest
+
+-- ── Joint sparse form ───────────────────────────────────────────────────────────────────────
+
+-- its two rows read back to k and l
+pub joint-value : (k l : ℤ) → (value (Columns.row two P (joint k l)) ≡ k) × (value (Columns.row two Q (joint k l)) ≡ l)
+joint-value = JointValue.joint-value
+
+-- it keeps the joint sparse rules
+pub joint-keeps : (k l : ℤ) → Keeps (joint k l)
+joint-keeps = JointKeeps.joint-keeps
+
+-- its top column is not zero
+pub joint-top : (k l : ℤ) → Topped (joint k l)
+joint-top = JointValue.joint-top
+
+-- it uses at most one place more than the longer bit length
+pub joint-length : (k l : ℕ) → length (joint (pos k) (pos l)) ≤ max (bitLength k) (bitLength l) + 1
+joint-length = JointLength.joint-length
+
+-- a column list that keeps the rules with a non-zero top is the joint form of its values
+pub joint-only : (cs : List Column) → Keeps cs → Topped cs → cs ≡ joint (value (Columns.row two P cs)) (value (Columns.row two Q cs))
+joint-only = JointUnique.joint-only
+
+-- it is the only one for its pair
+pub joint-unique : (cs ds : List Column) → Keeps cs → Topped cs → Keeps ds → Topped ds
+    → value (Columns.row two P cs) ≡ value (Columns.row two P ds) → value (Columns.row two Q cs) ≡ value (Columns.row two Q ds) → cs ≡ ds
+joint-unique = JointUnique.joint-unique
+
+-- no column list over −1, 0, 1 for the same pair has fewer non-zero columns
+pub joint-fewest : (k l : ℤ) (cs : List Column) → Columns.Small two cs → value (Columns.row two P cs) ≡ k → value (Columns.row two Q cs) ≡ l
+    → Columns.weight two (joint k l) ≤ Columns.weight two cs
+joint-fewest = JointFewest.joint-fewest
