@@ -6,7 +6,5 @@ pub mod Prefix
 pub mod LowRemainder
 pub mod RowTurns
 pub mod RowLoop
-pub mod RowAnswers
 pub mod JointTurns
 pub mod JointLoop
-pub mod JointAnswers

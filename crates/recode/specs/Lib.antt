@@ -21,4 +21,6 @@ pub mod JointFewest
 pub mod JointLength
 pub mod Remainder
 pub mod Call
+pub mod RowAnswers
+pub mod JointAnswers
 pub mod Promise

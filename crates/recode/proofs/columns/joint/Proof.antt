@@ -5,7 +5,7 @@ use native.Mathlib.Omega.{arith}
 use borrow.Author.Needs.{needs}
 use lib.ListN.{length}
 use Rattle.digits.specs.Limits.{card}
-use Rattle.recode.proofs.JointAnswers.{good-size, none-size, many-size, bad-first, bad-second, no-first, no-second, written}
+use Rattle.recode.specs.JointAnswers.{good-size, none-size, many-size, bad-first, bad-second, no-first, no-second, written}
 use Rattle.recode.proofs.columns.joint.Statement.{statement}
 use Rattle.recode.proofs.columns.joint.Tie as tie
 

@@ -2,7 +2,7 @@
 use native.Mathlib.Omega.{arith}
 use borrow.Author.Needs.{needs}
 use Rattle.digits.specs.Limits.{card}
-use Rattle.recode.proofs.RowAnswers.{no-bytes, many-bytes, even-window, wide-window, no-room, written}
+use Rattle.recode.specs.RowAnswers.{no-bytes, many-bytes, even-window, wide-window, no-room, written}
 use Rattle.recode.proofs.rows.row.Statement.{statement}
 use Rattle.recode.proofs.rows.row.Tie as tie
 
