@@ -3,13 +3,13 @@ use mathlib.Core.Path.{_≡_, refl, sym, ap, _∙_}
 use mathlib.Core.Logic.{_≢_}
 use mathlib.Core.List.{List, [], _∷_, _++_, reverse, reverse-cons}
 use Prim.Native.Nat.{ℕ, zero, suc, _+_, _*_, _-_, _^_, _≤_, _<_}
-use native.Mathlib.Nat.{mul-le-mul-left, pow-suc, add-suc}
+use native.Mathlib.Nat.{mul-le-mul-left, pow-suc, add-suc, lt-of-lt-of-le}
 use native.Mathlib.Numerals.{add-one}
 use native.Mathlib.Omega.{arith}
 use lib.Count.{leadingZeros, leading-top}
 use lib.ListN.{length, getD, drop, length-reverse, length-drop}
 use lib.Seq.{drop-cons, getD-drop}
-use lib.Pow.{pow-add, pow-pos}
+use lib.Pow.{pow-add, pow-mono}
 use Rattle.digits.specs.Scalar.{little, scalar, bitLength}
 use Rattle.digits.specs.Length.{length-only, length-least}
 
@@ -84,3 +84,9 @@ at-top s i h bytes ne =
     here : Bytes (getD s i 0 ∷ drop (suc i) s)
     here zero = bytes i
     here (suc j) = rw (getD-drop (suc i) s j 0) (bytes (suc i + j))
+
+-- a scalar of at most n bytes has at most 8 n bits
+pub scalar-bits : (s : List ℕ) (n : ℕ) → Bytes s → length s ≤ n → scalar s < 2 ^ (8 * n)
+scalar-bits s n h l =
+    let more : 8 * length s ≤ 8 * n = omega arith in
+    lt-of-lt-of-le (rw (← bytes-power (length s)) (scalar-below s h)) (pow-mono more)

@@ -24,3 +24,4 @@ pub mod Call
 pub mod RowAnswers
 pub mod JointAnswers
 pub mod Promise
+pub mod Samples

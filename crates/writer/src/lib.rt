@@ -1,4 +1,0 @@
-// Sheets of a named plan.
-pub fn zero() -> u8 {
-    0
-}
