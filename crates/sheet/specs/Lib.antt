@@ -20,3 +20,4 @@ pub mod Cut
 pub mod Placed
 pub mod Planned
 pub mod Allowed
+pub mod Field

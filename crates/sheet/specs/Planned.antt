@@ -52,12 +52,12 @@ sheet-tables h [] nothing = refl
 sheet-tables h [] (loaded t ms) = refl
 sheet-tables h (t ∷ ts) st = ap (λ (x : List Point). t ∷ x) (sheet-tables h ts st)
 
-window-of : (m : ℕ) → isWindow m ≡ true → Window m
+pub window-of : (m : ℕ) → isWindow m ≡ true → Window m
 window-of m e =
     let (a, b) = and-eq-true-iff (eqb (m % 2) 1) (leb m widest) .0 e in
     record { odd = eqb-true (m % 2) 1 a; within = leb-true m widest b }
 
-of-window : {m : ℕ} → Window m → isWindow m ≡ true
+pub of-window : {m : ℕ} → Window m → isWindow m ≡ true
 of-window {m} w = rw (eq-eqb (m % 2) 1 (w .odd), le-leb m widest (w .within))
 
 windows-of : (k : Kind) (m1 m2 : ℕ) → windowed k m1 m2 ≡ true → Windows k m1 m2

@@ -1,4 +1,7 @@
-// Sheets: the plans that they follow. What a sheet means is in specs/.
+// Sheets: the plans that they follow, and the fields of their lines. What a sheet means is in specs/.
+pub mod fields;
+pub mod figures;
+
 ghost use mathlib.Core.Path.{_≡_};
 ghost use Rattle.digits.specs.Row.{isWindow};
 ghost use Rattle.sheet.specs.Plan.{slots, tableAdditions, tableDoublings, stored, doubled, largest, isLimit, isWithin};

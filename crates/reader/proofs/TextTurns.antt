@@ -1,0 +1,106 @@
+-- A text grows in front; a decimal is spelled from its last figure. From the definition of a numeral.
+use mathlib.Core.Path.{_≡_, refl, sym, ap, subst, _∙_}
+use mathlib.Core.List.{List, [], _∷_, _++_, append-assoc, append-nil}
+use mathlib.Core.Bool.{Bool, true, false}
+use Prim.Native.Nat.{ℕ, zero, suc, _+_, _*_, _-_, _/_, _%_, _^_, _≤_, _<_}
+use native.Mathlib.Nat.{pow-suc}
+use native.Mathlib.Omega.{arith}
+use lib.Dec.{ltb}
+use lib.ListN.{length, drop, set, length-set, length-append}
+use lib.Seq.{set-split, drop-at, length-take-le}
+use borrow.Author.Tests.{lt-ltb, le-ltb, ltb-true, ltb-false}
+use Rattle.sheet.specs.Numeral.{figure, numeralIn, numeral}
+use Rattle.reader.specs.Text.{bytesOf, Before}
+use Rattle.reader.specs.declared.text.Text.{Text}
+
+-- ── numerals ────────────────────────────────────────────────────────────────────────────────
+
+low : (f n : ℕ) → n < 10 → numeralIn (suc f) 10 n ≡ (48 + n) ∷ []
+unfolding numeralIn
+low f n h = rw (lt-ltb n 10 h, numeralIn, lt-ltb n 10 h)
+
+high : (f n : ℕ) → 10 ≤ n → numeralIn (suc f) 10 n ≡ numeralIn f 10 (n / 10) ++ ((48 + n % 10) ∷ [])
+unfolding numeralIn
+high f n h = let d : n % 10 < 10 = omega arith in rw (le-ltb n 10 h, numeralIn, lt-ltb (n % 10) 10 d)
+
+-- the bound on the figures does not matter
+enough : (f g n : ℕ) → n < f → n < g → numeralIn f 10 n ≡ numeralIn g 10 n
+enough zero g n p q = absurd (omega arith)
+enough (suc f) zero n p q = absurd (omega arith)
+enough (suc f) (suc g) n p q = go (ltb n 10) refl (λ h. enough f g (n / 10) (omega arith) (omega arith))
+  where
+    go : (b : Bool) → ltb n 10 ≡ b → (10 ≤ n → numeralIn f 10 (n / 10) ≡ numeralIn g 10 (n / 10)) → numeralIn (suc f) 10 n ≡ numeralIn (suc g) 10 n
+    go true e r = low f n (ltb-true n 10 e) ∙ sym (low g n (ltb-true n 10 e))
+    go false e r =
+        let h : 10 ≤ n = ltb-false n 10 e in
+        high f n h ∙ ap (λ (l : List ℕ). l ++ ((48 + n % 10) ∷ [])) (r h) ∙ sym (high g n h)
+
+pub numeral-one : (n : ℕ) → n < 10 → numeral 10 n ≡ (48 + n) ∷ []
+unfolding numeral
+numeral-one n h = low n n h
+
+pub numeral-more : (n : ℕ) → 10 ≤ n → numeral 10 n ≡ numeral 10 (n / 10) ++ ((48 + n % 10) ∷ [])
+unfolding numeral
+numeral-more n h = high n n h ∙ ap (λ (l : List ℕ). l ++ ((48 + n % 10) ∷ [])) (enough n (suc (n / 10)) (n / 10) (omega arith) (omega arith))
+
+-- ── texts ───────────────────────────────────────────────────────────────────────────────────
+
+-- a byte in front
+pub byte-before : (bytes : List ℕ) (at b : ℕ) → at < length bytes → drop at (set bytes at b) ≡ b ∷ drop (at + 1) bytes
+byte-before bytes at b h =
+    ap (drop at) (set-split bytes at b h)
+    ∙ drop-at (lib.ListN.take at bytes) (b ∷ drop (suc at) bytes) at (length-take-le at bytes (omega arith))
+    ∙ ap (λ (n : ℕ). b ∷ drop n bytes) (sym (native.Mathlib.Numerals.add-one at))
+
+pub before-self : (t : Text) → length (t .bytes) ≡ 64 → Before t [] t
+before-self t h = record { long = h; at = omega arith; is = refl }
+
+pub before-more : {t u r : Text} {s : List ℕ} {b : ℕ} → Before t s u → Before u (b ∷ []) r → Before t (b ∷ s) r
+before-more {b = b} p q =
+    record { long = q .long; at = omega (arith, p .at, q .at); is = q .is ∙ ap (λ (l : List ℕ). b ∷ l) (p .is) }
+
+-- ── a decimal, from its last figure ─────────────────────────────────────────────────────────
+
+-- done stands in the text, the figures of rest are to come
+pub record Turn (n : ℕ) (t text : Text) (rest : ℕ) : Type 0 where
+  pub done : List ℕ
+  pub before : Before t done text
+  pub all : numeral 10 rest ++ done ≡ numeral 10 n
+  pub left : ℕ
+  pub few : left + length done ≡ 20
+  pub some : 1 ≤ left
+  pub small : rest < 10 ^ left
+
+pub turn-start : (n : ℕ) (t : Text) → length (t .bytes) ≡ 64 → n < 18446744073709551616 → Turn n t t n
+turn-start n t h l =
+    record { done = []; before = before-self t h; all = append-nil (numeral 10 n); left = 20; few = omega arith; some = omega arith; small = omega arith }
+
+module _ {n : ℕ} {t text : Text} {rest : ℕ} (c : Turn n t text rest) where
+  two-left : (k : ℕ) → 10 ≤ rest → rest < 10 ^ k → (j : ℕ) × (k ≡ suc (suc j))
+  two-left zero l h = absurd (omega arith)
+  two-left (suc zero) l h = absurd (omega arith)
+  two-left (suc (suc j)) l h = (j, refl)
+
+  -- one figure more
+  pub turn-more : (r : Text) → 10 ≤ rest → Before text ((48 + rest % 10) ∷ []) r → Turn n t r (rest / 10)
+  turn-more r l b =
+      let (j, e) = two-left (c .left) l (c .small) in
+      let h : rest < 10 ^ suc (suc j) = subst (λ (k : ℕ). rest < 10 ^ k) e (c .small) in
+      record {
+        done = (48 + rest % 10) ∷ c .done;
+        before = before-more (c .before) b;
+        all =
+            sym (append-assoc (numeral 10 (rest / 10)) ((48 + rest % 10) ∷ []) (c .done))
+            ∙ ap (λ (s : List ℕ). s ++ c .done) (sym (numeral-more rest l))
+            ∙ c .all;
+        left = suc j;
+        few = omega (arith, c .few, e);
+        some = omega arith;
+        small = omega (arith, pow-suc 10 (suc j));
+      }
+
+  -- the first figure
+  pub turn-last : (r : Text) → rest < 10 → Before text ((48 + rest) ∷ []) r → Before t (numeral 10 n) r × (length (numeral 10 n) ≤ 20)
+  turn-last r l b =
+      let e : (48 + rest) ∷ c .done ≡ numeral 10 n = ap (λ (s : List ℕ). s ++ c .done) (sym (numeral-one rest l)) ∙ c .all in
+      (subst (λ (s : List ℕ). Before t s r) e (before-more (c .before) b), omega (arith, sym (ap length e), c .few, c .some))

@@ -1,0 +1,20 @@
+-- `is_scalar_at` meets its contract, by those of the two calls.
+use mathlib.Core.Path.{ap, _∙_}
+use mathlib.Core.List.{List}
+use Prim.Native.Nat.{ℕ}
+use Rattle.sheet.specs.Field.{isNumeral}
+use borrow.Author.Needs.{needs}
+use Rattle.reader.proofs.line.is_scalar_at.Statement.{statement}
+use Rattle.reader.proofs.line.is_scalar_at.Tie as tie
+
+field-requires : tie.Need-field-requires
+field-requires c κs = search needs
+
+is-numeral-requires : tie.Need-is-numeral-requires
+is-numeral-requires c κs = search needs
+
+returns : tie.Need-returns
+returns c = c .is-numeral .ensures ∙ ap (λ (f : List ℕ). isNumeral 16 132 f) (c .before .field .ensures)
+
+pub is-scalar-at-spec : {M : Type 1} → statement M
+is-scalar-at-spec = tie.close (tie.spec field-requires is-numeral-requires returns)

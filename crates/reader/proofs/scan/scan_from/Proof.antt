@@ -1,0 +1,83 @@
+-- `scan_from` meets its contract. The loop's invariant: the state says of the lines from `at` on what the first one says of all
+-- (ScanTurns).
+use native.Mathlib.Omega.{arith}
+use borrow.Author.Needs.{needs}
+use mathlib.Core.Path.{_≡_, sym, ap, subst, _∙_}
+use mathlib.Core.List.{List, []}
+use Prim.Native.Nat.{_+_, _≤_, _-_}
+use lib.ListN.{length, drop, drop-of-length-le}
+use Rattle.digits.specs.Limits.{card}
+use Rattle.sheet.specs.Spelling.{lines}
+use Rattle.sheet.specs.Cut.{lines-none}
+use Rattle.reader.specs.State.{Counted, Follows, Stepped, misplacedFrom}
+use Rattle.reader.proofs.ScanTurns.{Going, going-start, going-same, going-turn, going-end, counted-turn}
+use Rattle.reader.proofs.scan.scan_from.Statement.{statement}
+use Rattle.reader.proofs.scan.scan_from.Tie as tie
+
+abbrev Inv-loop : tie.InvT-loop
+Inv-loop sheet from at₀ state₀ at state = (at ≤ length sheet) × Counted state × (state .line ≤ at + 1) × Going state₀ (lines card (drop from sheet)) state (lines card (drop at sheet))
+
+abbrev μ-loop : tie.MeasureT-loop
+μ-loop sheet from at₀ state₀ at state = length sheet - at
+
+loop-holds : tie.Need-loop-holds Inv-loop μ-loop
+loop-holds c = (c .before .pre .1 .0, c .before .pre .1 .1 .0, c .before .pre .1 .1 .1, going-start (c .before .args .start) (lines card (drop (c .before .args .from) (c .before .args .sheet .now))))
+
+line-at-requires : tie.Need-line-at-requires Inv-loop μ-loop
+line-at-requires c κs = search needs
+
+after-requires : tie.Need-after-requires Inv-loop μ-loop
+after-requires c κs = c .before .before .loop .inv .1
+
+enum-known-step : tie.Need-enum-known-step Inv-loop μ-loop
+enum-known-step c = search needs
+
+enum-told : tie.Need-enum-told Inv-loop μ-loop
+enum-told c = search needs
+
+returns : tie.Need-returns Inv-loop μ-loop
+returns c =
+    let t = c .before .before .before .line-at .ensures in
+    let s = c .before .before .before .before .before .loop .state in
+    let f = subst (Stepped s (c .before .before .before .line-at .result .line)) (c .enum-told .given .1) (c .before .before .after .ensures) in
+    sym (c .before .before .before .before .before .loop .inv .3 .misplaced) ∙ ap (misplacedFrom s) (t .rest) ∙ f (t .meant) (t .is) (lines card (drop (c .before .before .before .line-at .result .next) (c .before .before .before .before .before .before .before .args .sheet .now)))
+
+loop-less : tie.Need-loop-less Inv-loop μ-loop
+loop-less c = omega (arith, c .before .before .before .before .line-at .ensures .later, c .before .before .before .before .line-at .ensures .within)
+
+loop-again : tie.Need-loop-again Inv-loop μ-loop
+loop-again c =
+    let t = c .before .before .before .before .line-at .ensures in
+    let s = c .before .before .before .before .before .before .loop .state in
+    let f = subst (Stepped s (c .before .before .before .before .line-at .result .line)) (c .before .step .given .1) (c .before .before .before .after .ensures) (t .meant) (t .is) in (
+      t .within,
+      counted-turn (c .before .before .before .before .before .before .loop .inv .1) f (omega (arith, f .line, c .before .before .before .before .before .before .loop .inv .2, t .later, t .within, c .before .before .before .before .before .before .before .before .pre .0)),
+      omega (arith, f .line, c .before .before .before .before .before .before .loop .inv .2, t .later),
+      going-turn (going-same (t .rest) (c .before .before .before .before .before .before .loop .inv .3)) f,
+    )
+
+finished-requires : tie.Need-finished-requires Inv-loop μ-loop
+finished-requires c κs = search needs
+
+returns-2 : tie.Need-returns-2 Inv-loop μ-loop
+returns-2 c =
+    let s = c .before .before .before .before .args .sheet .now in
+    let e : lines card (drop (c .before .before .loop .at) s) ≡ [] = ap (lines card) (drop-of-length-le s {i = c .before .before .loop .at} (omega arith)) ∙ lines-none card in
+    going-end (c .before .before .before .before .args .start) (lines card (drop (c .before .before .before .before .args .from) s)) (c .before .before .loop .state) (c .finished .result) (going-same e (c .before .before .loop .inv .3)) (c .finished .ensures)
+
+pub scan-from-spec : {M : Type 1} → statement M
+scan-from-spec =
+    tie.close
+    (tie.spec
+    Inv-loop
+    μ-loop
+    loop-holds
+    line-at-requires
+    after-requires
+    enum-known-step
+    enum-told
+    returns
+    loop-less
+    loop-again
+    finished-requires
+    returns-2)

@@ -1,0 +1,110 @@
+-- The lines of a sheet as the code has them: numbers by sign and size, and the header without its two scalars.
+use mathlib.Core.Path.{_≡_}
+use mathlib.Core.Bool.{Bool, true, false, cond}
+use mathlib.Core.List.{List, [], _∷_}
+use mathlib.Core.Option.{Option, none, some}
+use Prim.Native.Nat.{ℕ, suc, _≤_, _<_}
+use Prim.Native.Char.{code}
+use lib.Dec.{eqb}
+use lib.IntN.{ℤ, pos, negsuc, negℤ}
+use lib.ListN.{length, drop}
+use Rattle.digits.specs.Limits.{card}
+use Rattle.sheet.specs.Plan.{Point, point}
+use Rattle.sheet.specs.Line as spec
+use Rattle.sheet.specs.Line.{Kind, joint, interleaved, header, table, load, double, add, end, misspelled}
+use Rattle.sheet.specs.Spelling.{lines}
+use Rattle.sheet.specs.declared.figures.Decimal.{Decimal}
+use Rattle.sheet.specs.declared.figures.Decimal as decimal
+use Rattle.reader.specs.declared.point.Signed.{Signed}
+use Rattle.reader.specs.declared.point.Digit.{Digit}
+use Rattle.reader.specs.declared.point.Digit as digit
+use Rattle.reader.specs.declared.point.Point as point-of
+use Rattle.reader.specs.declared.point.Pair.{Pair}
+use Rattle.reader.specs.declared.point.Pair as pair
+use Rattle.reader.specs.declared.line.Header as header-of
+use Rattle.reader.specs.declared.line.Heading.{Heading}
+use Rattle.reader.specs.declared.line.Heading as heading
+use Rattle.reader.specs.declared.line.Line.{Line}
+use Rattle.reader.specs.declared.line.Line.the-variants.{Head, Table, Load, Double, Add, End, Misspelled}
+
+-- a decimal, as the definitions have it
+abbrev pub optionOf : Decimal → Option ℕ
+optionOf (decimal.the-variants.Is n) = some n
+optionOf decimal.the-variants.None = none
+
+-- a whole number by its sign and its size
+abbrev pub signed : ℤ → Signed
+signed (pos n) = record { negative = false; size = n }
+signed (negsuc n) = record { negative = true; size = suc n }
+
+-- the number of a sign and a size
+abbrev pub wholeOf : Bool → ℕ → ℤ
+wholeOf true n = negℤ (pos n)
+wholeOf false n = pos n
+
+abbrev pub whole : Signed → ℤ
+whole s = wholeOf (s .negative) (s .size)
+
+-- a digit that was read
+abbrev pub codedDigit : Option ℤ → Digit
+codedDigit none = digit.the-variants.None
+codedDigit (some z) = digit.the-variants.Is (signed z)
+
+-- a point
+abbrev pub codedPoint : Point → point-of.Point
+codedPoint t = record { p = signed (t .p); q = signed (t .q) }
+
+abbrev pub pointOf : point-of.Point → Point
+pointOf t = point (whole (t .p)) (whole (t .q))
+
+abbrev pub codedPair : Option Point → Pair
+codedPair none = pair.the-variants.None
+codedPair (some t) = pair.the-variants.Is (codedPoint t)
+
+-- the kind of a header
+abbrev pub kindOf : Bool → Kind
+kindOf true = joint
+kindOf false = interleaved
+
+abbrev pub isJoint : Kind → Bool
+isJoint joint = true
+isJoint interleaved = false
+
+-- a header, without its scalars
+abbrev pub codedHeader : spec.Header → header-of.Header
+codedHeader h =
+    record {
+      joint = isJoint (h .kind);
+      m1 = h .m1;
+      m2 = h .m2;
+      slots = h .slots;
+      additions = h .additions;
+      doublings = h .doublings;
+    }
+
+abbrev pub codedHeading : Option spec.Header → Heading
+codedHeading none = heading.the-variants.None
+codedHeading (some h) = heading.the-variants.Is (codedHeader h)
+
+-- a line
+abbrev pub coded : spec.Line → Line
+coded (header h) = Head (codedHeader h)
+coded (table t) = Table (codedPoint t)
+coded (load t) = Load (codedPoint t)
+coded double = Double
+coded (add t) = Add (codedPoint t)
+coded end = End
+coded misspelled = Misspelled
+
+-- the line of a letter and the point behind it
+abbrev pub pointed : ℕ → Option Point → spec.Line
+pointed c none = misspelled
+pointed c (some t) = cond (eqb c (code "T")) (table t) (cond (eqb c (code "L")) (load t) (cond (eqb c (code "A")) (add t) misspelled))
+
+-- of the sheet s, the line at a place is l, and the next one begins at `next`
+pub record Took (s : List ℕ) (at : ℕ) (line : Line) (next : ℕ) : Type 0 where
+  pub meant : spec.Line
+  pub is : line ≡ coded meant
+  pub rest : lines card (drop at s) ≡ meant ∷ lines card (drop next s)
+  pub later : at < next
+  pub within : next ≤ length s

@@ -1,0 +1,69 @@
+-- What the first pass over the lines finds: the first line out of place, or what each of the questions 7 to 10 is answered.
+use mathlib.Core.Path.{_≡_}
+use mathlib.Core.Bool.{true}
+use mathlib.Core.List.{List, [], _∷_}
+use mathlib.Core.Option.{Option, none, some}
+use Prim.Native.Nat.{ℕ, _+_}
+use lib.ListN.{getD}
+use Rattle.digits.specs.Limits.{card}
+use Rattle.sheet.specs.Line.{Header, Line, plan, header, table, load, double, add, end, misspelled}
+use Rattle.sheet.specs.Spelling.{lineFeed, comma, cut}
+use Rattle.sheet.specs.Questions.{misplaced, offPlan, disallowed, excess, additions, doublings}
+use Rattle.reader.specs.Coded.{codedHeader}
+use Rattle.sheet.specs.Field.{isNumeral}
+use Rattle.reader.specs.State.{found, misplacedFrom, offPlanFrom, disallowedIn, excessIn}
+use Rattle.reader.specs.declared.line.Header as header-of
+use Rattle.reader.specs.declared.state.State.{State}
+use Rattle.reader.specs.declared.scan.Scan as scan
+use Rattle.reader.specs.declared.scan.Survey as survey
+
+-- the state s with the lines ls to come answers what the state r holds
+pub record Reached (s : State) (ls : List Line) (r : State) : Type 0 where
+  pub misplaced : misplacedFrom s ls ≡ none
+  pub offPlan : offPlanFrom s ls ≡ found (r .tables .fault)
+  pub disallowed : disallowedIn s ls ≡ found (r .steps .fault)
+  pub excess : excessIn s ls ≡ found (r .doubles .fault)
+  pub additions : s .additions + additions ls ≡ r .additions
+  pub doublings : s .doublings + doublings ls ≡ r .doublings
+
+abbrev pub Scanned : State → List Line → scan.Scan → Type 0
+Scanned s ls (scan.the-variants.Met r) = Reached s ls r
+Scanned s ls (scan.the-variants.Misplaced n) = misplacedFrom s ls ≡ some n
+
+-- the lines have a header, and to the questions 7 to 10 they answer what the state r holds
+pub record Answered (ls : List Line) (head : header-of.Header) (r : State) : Type 0 where
+  pub h : Header
+  pub rest : List Line
+  pub is : ls ≡ header h ∷ rest
+  pub coded : head ≡ codedHeader h
+  pub misplaced : misplaced ls ≡ none
+  pub offPlan : offPlan h ls ≡ found (r .tables .fault)
+  pub disallowed : disallowed (plan h) ls ≡ found (r .steps .fault)
+  pub excess : excess card ls ≡ found (r .doubles .fault)
+  pub additions : additions ls ≡ r .additions
+  pub doublings : doublings ls ≡ r .doublings
+
+abbrev pub Surveyed : List Line → survey.Survey → Type 0
+Surveyed ls (survey.the-variants.Met head r) = Answered ls head r
+Surveyed ls (survey.the-variants.Misplaced n) = misplaced ls ≡ some n
+
+-- the header of a header line
+abbrev pub headingOf : Line → Option Header
+headingOf (header h) = some h
+headingOf (table t) = none
+headingOf (load t) = none
+headingOf double = none
+headingOf (add t) = none
+headingOf end = none
+headingOf misspelled = none
+
+-- the first line is a header
+abbrev pub Heads : List Line → Type 0
+Heads ls = (h : Header) × (rest : List Line) × (ls ≡ header h ∷ rest)
+
+-- a field of the first line of the sheet s, and that it is a scalar
+abbrev pub headField : List ℕ → ℕ → List ℕ
+headField s k = getD (cut comma (getD (cut lineFeed s) 0 [])) k []
+
+abbrev pub ScalarIn : List ℕ → ℕ → Type 0
+ScalarIn s k = isNumeral 16 (card .figures) (headField s k) ≡ true

@@ -1,0 +1,2 @@
+pub mod CutTurns
+pub mod FieldTurns
