@@ -1,0 +1,168 @@
+-- After the row or joint calls the two buffers hold the plan's digits: from the calls' contracts, for scalars and windows that
+-- meet questions 1 and 2.
+use mathlib.Core.Path.{_≡_, refl, sym, ap, ap₂, subst, _∙_}
+use mathlib.Core.Bool.{true, _&&_}
+use mathlib.Core.List.{List, [], _∷_, _++_, map}
+use Prim.Native.Nat.{ℕ, zero, suc, _+_, _-_, _*_, _≤_, _<_, max}
+use native.Mathlib.Omega.{arith}
+use lib.IntN.{ℤ, pos, natAbs}
+use lib.ListN as ListN
+use lib.ListN.{getD, replicate, List·getD-map}
+use borrow.Author.Tests.{le-leb}
+use Rattle.digits.specs.Byte.{byteOf}
+use Rattle.digits.specs.Bytes.{Bytes}
+use Rattle.digits.specs.Column.{row, Small}
+use Rattle.digits.specs.Limits.{card}
+use Rattle.digits.specs.Row.{Digit, Over, isWindow}
+use Rattle.digits.specs.Scalar.{scalar}
+use Rattle.digits.specs.Two.{Column, Two, P, Q, digit, two, blankColumn}
+use Rattle.recode.specs.Call.{sized, roomy, length, filled, left, rowAnswer, rowBuffer, jointAnswer, jointBuffer}
+use Rattle.recode.specs.declared.answer.Recoded.{Recoded}
+use Rattle.recode.specs.declared.answer.Recoded.the-variants.{Written}
+use Rattle.recode.specs.Joint.{joint}
+use Rattle.recode.specs.JointValue.{joint-small}
+use Rattle.recode.specs.Row as Row
+use Rattle.recode.specs.RowValue.{row-digits}
+use Rattle.sheet.specs.declared.Plan.the-variants.{J, I}
+use Rattle.sheet.specs.Plan.{point}
+use Rattle.sheet.specs.Planned.{window-of}
+use Rattle.sheet.specs.Sound.{Window}
+use Rattle.writer.specs.Columns.{paired-at, paired-length}
+use Rattle.writer.specs.Met.{both, few-bytes, bounded}
+use Rattle.writer.specs.Valid.{window-positive}
+use Rattle.writer.specs.Parts.{signed, Holds, Bounded}
+use Rattle.writer.specs.Written.{digits}
+use Rattle.writer.proofs.Signs.{signed-byte}
+
+-- ── a digit in a filled buffer ──────────────────────────────────────────────────────────────
+
+zeros-at : (n i : ℕ) → getD {A = ℕ} (replicate n 0) i 0 ≡ 0
+zeros-at zero i = refl
+zeros-at (suc n) zero = refl
+zeros-at (suc n) (suc i) = zeros-at n i
+
+filled-at : (ds : List ℤ) (n i : ℕ) → getD (map byteOf ds ++ replicate n 0) i 0 ≡ byteOf (getD ds i (pos 0))
+unfolding byteOf
+filled-at [] n i = zeros-at n i
+filled-at (d ∷ ds) n zero = refl
+filled-at (d ∷ ds) n (suc i) = filled-at ds n i
+
+-- read back
+digit-at : (ds : List ℤ) (buffer : List ℕ) (i : ℕ) → natAbs (getD ds i (pos 0)) < 128 → signed (getD (filled ds buffer) i 0) ≡ getD ds i (pos 0)
+digit-at ds buffer i h =
+    ap signed (filled-at ds (ListN.length buffer - ListN.length ds) i) ∙ signed-byte (getD ds i (pos 0)) h
+
+-- ── question 1 and the scalars ──────────────────────────────────────────────────────────────
+
+-- a scalar of at most 66 bytes
+pub in-bounds : (s : List ℕ) → Bytes s → sized card s ≡ true → Bounded (scalar s)
+unfolding Bounded
+in-bounds s h e = bounded s h e
+
+room-enough : (n : ℕ) → n ≤ 66 → roomy n 529 ≡ true
+room-enough n h = le-leb (8 * n + 1) 529 (omega arith)
+
+-- ── the joint form ──────────────────────────────────────────────────────────────────────────
+
+small-at : (cs : List Column) → Small two cs → (i : ℕ) (r : Two) → natAbs (digit (getD cs i blankColumn) r) ≤ 1
+small-at [] s i P = omega arith
+small-at [] s i Q = omega arith
+small-at (c ∷ cs) (Small.more f s) zero r = f r
+small-at (c ∷ cs) (Small.more f s) (suc i) r = small-at cs s i r
+
+row-at : (cs : List Column) (i : ℕ) (r : Two) → getD (row two r cs) i (pos 0) ≡ digit (getD cs i blankColumn) r
+unfolding row
+row-at cs i P = List·getD-map (λ (c : Column). digit c P) cs i blankColumn
+row-at cs i Q = List·getD-map (λ (c : Column). digit c Q) cs i blankColumn
+
+module _ (k l : List ℕ) (sizes : (sized card k && sized card l) ≡ true) where
+  joint-answer : jointAnswer card k l 529 529 ≡ Written (ListN.length (joint (pos (scalar k)) (pos (scalar l))))
+  unfolding jointAnswer
+  joint-answer =
+      let (a, b) = both (sized card k) (sized card l) sizes in
+      let m : max (ListN.length k) (ListN.length l) ≤ 66 = omega (arith, few-bytes k a, few-bytes l b) in
+      rw (a, b, room-enough (max (ListN.length k) (ListN.length l)) m)
+
+  pub joint-places : {r : Recoded} {places : ℕ} → r ≡ jointAnswer card k l 529 529 → places ≡ length r → places ≡ ListN.length (digits J (scalar k) (scalar l))
+  unfolding digits
+  joint-places e f = f ∙ ap length (e ∙ joint-answer)
+
+module _ (k l p q : List ℕ) (sizes : (sized card k && sized card l) ≡ true) (p-long : ListN.length p ≡ 529) (q-long : ListN.length q ≡ 529) where
+  buffer-row : (r : Two) (b : List ℕ) → jointBuffer card r k l p q ≡ b → (u : List ℕ) → jointBuffer card r k l p q ≡ filled (row two r (joint (pos (scalar k)) (pos (scalar l)))) u
+      → (i : ℕ) → signed (getD b i 0) ≡ digit (getD (joint (pos (scalar k)) (pos (scalar l))) i blankColumn) r
+  buffer-row r b e u f i =
+      let cs : List Column = joint (pos (scalar k)) (pos (scalar l)) in
+      ap (λ (x : List ℕ). signed (getD x i 0)) (sym e ∙ f)
+      ∙ digit-at (row two r cs) u i (subst (λ (z : ℤ). natAbs z < 128) (sym (row-at cs i r)) (small r))
+      ∙ row-at cs i r
+    where
+      small : (r : Two) → natAbs (digit (getD (joint (pos (scalar k)) (pos (scalar l))) i blankColumn) r) < 128
+      small r = omega (arith, small-at (joint (pos (scalar k)) (pos (scalar l))) (joint-small (pos (scalar k)) (pos (scalar l))) i r)
+
+  filled-p : jointBuffer card P k l p q ≡ filled (row two P (joint (pos (scalar k)) (pos (scalar l)))) p
+  unfolding jointBuffer
+  filled-p = ap (λ (a : Recoded). left a (row two P (joint (pos (scalar k)) (pos (scalar l)))) p) (ap₂ (jointAnswer card k l) p-long q-long ∙ joint-answer k l sizes)
+
+  filled-q : jointBuffer card Q k l p q ≡ filled (row two Q (joint (pos (scalar k)) (pos (scalar l)))) q
+  unfolding jointBuffer
+  filled-q = ap (λ (a : Recoded). left a (row two Q (joint (pos (scalar k)) (pos (scalar l)))) q) (ap₂ (jointAnswer card k l) p-long q-long ∙ joint-answer k l sizes)
+
+  -- the buffers hold the joint columns
+  pub joint-holds : {p′ q′ : List ℕ} → p′ ≡ jointBuffer card P k l p q → q′ ≡ jointBuffer card Q k l p q → Holds p′ q′ (digits J (scalar k) (scalar l))
+  unfolding digits
+  joint-holds {p′} {q′} e f =
+      record { columns = λ i. ap₂ point (buffer-row P p′ (sym e) p filled-p i) (buffer-row Q q′ (sym f) q filled-q i) }
+
+-- ── two rows ────────────────────────────────────────────────────────────────────────────────
+
+digit-small : {m : ℕ} {d : ℤ} → Digit m d → natAbs d ≤ m
+digit-small Digit.none = omega arith
+digit-small (Digit.odd o s) = s
+
+over-at : {m : ℕ} (ds : List ℤ) → Over m ds → (i : ℕ) → natAbs (getD ds i (pos 0)) ≤ m
+over-at [] o i = omega arith
+over-at (d ∷ ds) (Over.more x o) zero = digit-small x
+over-at (d ∷ ds) (Over.more x o) (suc i) = over-at ds o i
+
+module _ (s : List ℕ) (m : ℕ) (size : sized card s ≡ true) (window : isWindow m ≡ true) where
+  row-answer : rowAnswer card s m 529 ≡ Written (ListN.length (Row.row m (pos (scalar s))))
+  unfolding rowAnswer
+  row-answer = rw (size, window, room-enough (ListN.length s) (few-bytes s size))
+
+  row-places : {r : Recoded} {n : ℕ} → r ≡ rowAnswer card s m 529 → n ≡ length r → n ≡ ListN.length (Row.row m (pos (scalar s)))
+  row-places e f = f ∙ ap length (e ∙ row-answer)
+
+module _ (s : List ℕ) (m : ℕ) (b : List ℕ) (size : sized card s ≡ true) (window : isWindow m ≡ true) (long : ListN.length b ≡ 529) where
+  row-filled : rowBuffer card s m b ≡ filled (Row.row m (pos (scalar s))) b
+  unfolding rowBuffer
+  row-filled = ap (λ (a : Recoded). left a (Row.row m (pos (scalar s))) b) (ap (rowAnswer card s m) long ∙ row-answer s m size window)
+
+  row-digit : {b′ : List ℕ} → b′ ≡ rowBuffer card s m b → (i : ℕ) → signed (getD b′ i 0) ≡ getD (Row.row m (pos (scalar s))) i (pos 0)
+  row-digit {b′} e i =
+      let w : Window m = window-of m window in
+      let ds : List ℤ = Row.row m (pos (scalar s)) in
+      ap (λ (x : List ℕ). signed (getD x i 0)) (e ∙ row-filled)
+      ∙ digit-at ds b i (omega (arith, over-at ds (row-digits m (pos (scalar s)) (window-positive w)) i, w .within))
+
+module _ (k l : List ℕ) (m1 m2 : ℕ) (sizes : (sized card k && sized card l) ≡ true) (windows : (isWindow m1 && isWindow m2) ≡ true) where
+  pub rows-places : {r s : Recoded} {a b n : ℕ} → r ≡ rowAnswer card k m1 529 → s ≡ rowAnswer card l m2 529 → a ≡ length r → b ≡ length s → n ≡ max a b
+      → n ≡ ListN.length (digits (I m1 m2) (scalar k) (scalar l))
+  unfolding digits
+  rows-places e f g h x =
+      let (u, v) = both (sized card k) (sized card l) sizes in
+      let (w, y) = both (isWindow m1) (isWindow m2) windows in
+      x ∙ ap₂ max (row-places k m1 u w e g) (row-places l m2 v y f h)
+      ∙ sym (paired-length (Row.row m1 (pos (scalar k))) (Row.row m2 (pos (scalar l))))
+
+module _ (k l p q : List ℕ) (m1 m2 : ℕ) (sizes : (sized card k && sized card l) ≡ true) (windows : (isWindow m1 && isWindow m2) ≡ true) (p-long : ListN.length p ≡ 529) (q-long : ListN.length q ≡ 529) where
+  -- the buffers hold the two rows
+  pub rows-hold : {p′ q′ : List ℕ} → p′ ≡ rowBuffer card k m1 p → q′ ≡ rowBuffer card l m2 q → Holds p′ q′ (digits (I m1 m2) (scalar k) (scalar l))
+  unfolding digits
+  rows-hold e f =
+      let (u, v) = both (sized card k) (sized card l) sizes in
+      let (w, y) = both (isWindow m1) (isWindow m2) windows in
+      record {
+        columns = λ i.
+            ap₂ point (row-digit k m1 p u w p-long e i) (row-digit l m2 q v y q-long f i)
+            ∙ sym (paired-at (Row.row m1 (pos (scalar k))) (Row.row m2 (pos (scalar l))) i);
+      }

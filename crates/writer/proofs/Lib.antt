@@ -1,0 +1,11 @@
+-- The laws that the proofs of the functions cite.
+pub mod Puts
+pub mod Numerals
+pub mod Signs
+pub mod Hexadecimal
+pub mod StepBytes
+pub mod TableBytes
+pub mod MovesLoop
+pub mod SheetBytes
+pub mod DigitRows
+pub mod PlanAnswers

@@ -1,0 +1,64 @@
+-- One turn of the loop over the places below the top, and of the loop that counts their steps, over plain values.
+use mathlib.Core.Path.{_≡_, sym, ap, _∙_}
+use mathlib.Core.List.{List, [], _∷_, _++_}
+use Prim.Native.Nat.{ℕ, suc, _+_, _-_, _*_, _≤_, _<_}
+use native.Mathlib.Numerals.{add-one}
+use native.Mathlib.Omega.{arith}
+use Rattle.sheet.specs.declared.Plan.{Plan}
+use Rattle.sheet.specs.Digits.{weight}
+use Rattle.sheet.specs.Spelling.{lineFeed}
+use Rattle.writer.specs.Parts.{Put, Room, stepsBytes, columnAt, columnsBelow, weighed}
+use Rattle.writer.specs.Written.{placeSteps}
+use Rattle.writer.proofs.Puts.{Progress, begun, advance, finished, progress-same, progress-room, room-first}
+use Rattle.writer.proofs.StepBytes.{movesBytes, moves-none, moves-more, weight-none, weight-more}
+
+-- the places from i up have been put, and those below i are left
+abbrev pub Moving : Plan → List ℕ → List ℕ → ℕ → List ℕ → List ℕ → ℕ → ℕ → ℕ → Type 0
+Moving plan p q top out₀ out at next i = (i ≤ top) × Progress out₀ out at next (movesBytes plan p q top) (movesBytes plan p q i)
+
+module _ (plan : Plan) (p q : List ℕ) (top : ℕ) (out₀ : List ℕ) (at : ℕ) where
+  pub move-start : Moving plan p q top out₀ out₀ at at top
+  move-start = (omega arith, begun out₀ at (movesBytes plan p q top))
+
+  module _ {out : List ℕ} {next i : ℕ} (s : Moving plan p q top out₀ out at next i) where
+    -- at place 0 all is put
+    pub move-stop : i ≤ 0 → Put out₀ out at next (movesBytes plan p q top)
+    move-stop h =
+        let e : i ≡ 0 = omega arith in
+        finished (progress-same (ap (movesBytes plan p q) e ∙ moves-none plan p q) (s .1))
+
+    module _ (room : Room out₀ at (movesBytes plan p q top)) (going : 0 < i) where
+      lower : Progress out₀ out at next (movesBytes plan p q top) ((68 ∷ lineFeed ∷ []) ++ (stepsBytes 65 (placeSteps plan (columnAt p q (i - 1))) ++ movesBytes plan p q (i - 1)))
+      lower =
+          let e : i ≡ suc (i - 1) = omega arith in
+          progress-same (ap (movesBytes plan p q) e ∙ moves-more plan p q (i - 1)) (s .1)
+
+      -- a D line, and then the steps of the place
+      pub double-room : Room out next (68 ∷ lineFeed ∷ [])
+      double-room = room-first _ (progress-room room lower)
+
+      module _ {out1 : List ℕ} {next1 : ℕ} (d : Put out out1 next next1 (68 ∷ lineFeed ∷ [])) where
+        begins : Progress out₀ out1 at next1 (movesBytes plan p q top) (stepsBytes 65 (placeSteps plan (columnAt p q (i - 1))) ++ movesBytes plan p q (i - 1))
+        begins = advance (stepsBytes 65 (placeSteps plan (columnAt p q (i - 1))) ++ movesBytes plan p q (i - 1)) d lower
+
+        pub steps-room : Room out1 next1 (stepsBytes 65 (placeSteps plan (columnAt p q (i - 1))))
+        steps-room = room-first (movesBytes plan p q (i - 1)) (progress-room room begins)
+
+        pub move-turn : {out2 : List ℕ} {next2 : ℕ} → Put out1 out2 next1 next2 (stepsBytes 65 (placeSteps plan (columnAt p q (i - 1)))) → Moving plan p q top out₀ out2 at next2 (i - 1)
+        move-turn r = (omega (arith, s .0), advance (movesBytes plan p q (i - 1)) r begins)
+
+-- what the plan counts of the places below i
+abbrev pub Weighed : Plan → List ℕ → List ℕ → ℕ → ℕ → Type 0
+Weighed plan p q n i = (n ≡ weight plan (columnsBelow p q i)) × (n ≤ 2 * i)
+
+module _ (plan : Plan) (p q : List ℕ) where
+  pub weigh-start : Weighed plan p q 0 0
+  unfolding columnsBelow
+  weigh-start = (sym (weight-none plan), omega arith)
+
+  pub weigh-turn : (n i : ℕ) → Weighed plan p q n i → (w : ℕ) → (w ≡ weighed plan (columnAt p q i)) × (w ≤ 2) → Weighed plan p q (n + w) (i + 1)
+  unfolding columnsBelow
+  weigh-turn n i s w e = (
+    omega (arith, s .0, e .0, weight-more plan (columnAt p q i) (columnsBelow p q i), ap (λ (j : ℕ). weight plan (columnsBelow p q j)) (add-one i)),
+    omega (arith, s .1, e .1),
+  )

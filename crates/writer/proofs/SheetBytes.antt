@@ -1,0 +1,149 @@
+-- The bytes of a written sheet, part by part, from the rows that hold its digits: header, T lines, steps, E.
+use mathlib.Core.Path.{_≡_, refl, sym, ap, ap₂, subst, _∙_}
+use mathlib.Core.Bool.{not}
+use mathlib.Core.List.{List, [], _∷_, _++_, map, reverse, reverseAux, reverse-append, append-assoc}
+use Prim.Native.Nat.{ℕ, zero, suc, _+_, _-_, _≤_}
+use native.Mathlib.Nat.{le-trans}
+use native.Mathlib.Omega.{arith}
+use lib.Dec.{T}
+use lib.ListN.{length, getD, take}
+use lib.Seq.{take-suc, take-length}
+use Rattle.digits.specs.Two.{Column, blank, blankColumn}
+use Rattle.recode.specs.Joint.{Topped}
+use Rattle.sheet.specs.declared.Largest.{Largest}
+use Rattle.sheet.specs.declared.Plan.{Plan}
+use Rattle.sheet.specs.declared.Plan.the-variants.{J, I}
+use Rattle.sheet.specs.Digits.{weight}
+use Rattle.sheet.specs.Line.{Header, Line, header, table, end}
+use Rattle.sheet.specs.Numeral.{numeral}
+use Rattle.sheet.specs.Plan.{Point, slots, tables, tableAdditions, tableDoublings, largest}
+use Rattle.sheet.specs.Questions.{doublings}
+use Rattle.sheet.specs.Sound.{Steps, stepLines, sheetLines}
+use Rattle.sheet.specs.Spelling.{comma, lineFeed, kind, join, spell}
+use Rattle.writer.specs.Accepted.{written-fits, written-cost, written-places, written-header, written-doublings}
+use Rattle.writer.specs.Lengths.{spell-append}
+use Rattle.writer.specs.Columns.{digits-top}
+use Rattle.writer.specs.Parts.{columnAt, columnsBelow, lettersOf, decimalsOf, scalarsOf, headerBytes, Holds, Bounded, Ready}
+use Rattle.writer.specs.Written.{digits, kindOf, first, second, heading, stepsDown, stepsOf, writtenLines, writtenAdditions, written}
+use Rattle.writer.proofs.StepBytes.{weight-none, weight-more}
+
+-- ── the header ──────────────────────────────────────────────────────────────────────────────
+
+regroup : (a b c d e f g : List ℕ) (s : List ℕ)
+    → (a ++ comma ∷ (b ++ comma ∷ (c ++ comma ∷ (d ++ comma ∷ (e ++ comma ∷ (f ++ comma ∷ g)))))) ++ lineFeed ∷ s
+    ≡ ((a ++ comma ∷ []) ++ ((b ++ comma ∷ []) ++ ((c ++ comma ∷ []) ++ ((d ++ comma ∷ []) ++ (e ++ comma ∷ [])))))
+    ++ ((f ++ comma ∷ (g ++ lineFeed ∷ [])) ++ s)
+regroup a b c d e f g s = simp append-assoc
+
+kinds : (x b : List ℕ) (s : List ℕ) → (x ++ comma ∷ b) ++ s ≡ (x ++ comma ∷ []) ++ (b ++ s)
+kinds x b s = simp append-assoc
+
+spell-header : (h : Header) (ls : List Line) → spell (header h ∷ ls) ≡ headerBytes h ++ spell ls
+unfolding spell join headerBytes lettersOf decimalsOf scalarsOf
+spell-header h ls =
+    let m1 : List ℕ = numeral 10 (h .m1) in
+    let m2 : List ℕ = numeral 10 (h .m2) in
+    let sl : List ℕ = numeral 10 (h .slots) in
+    let ad : List ℕ = numeral 10 (h .additions) in
+    let db : List ℕ = numeral 10 (h .doublings) in
+    let k : List ℕ = numeral 16 (h .k) in
+    let l : List ℕ = numeral 16 (h .l) in
+    let letters : List ℕ = lettersOf (kind (h .kind)) in
+    let decimals : List ℕ = decimalsOf (h .m1) (h .m2) (h .slots) (h .additions) (h .doublings) in
+    let scalars : List ℕ = scalarsOf (h .k) (h .l) in
+    ap (λ (s : List ℕ). 83 ∷ comma ∷ s)
+    (kinds (kind (h .kind)) (m1 ++ comma ∷ (m2 ++ comma ∷ (sl ++ comma ∷ (ad ++ comma ∷ (db ++ comma ∷ (k ++ comma ∷ l)))))) (lineFeed ∷ spell ls)
+    ∙ ap (λ (s : List ℕ). (kind (h .kind) ++ comma ∷ []) ++ s) (regroup m1 m2 sl ad db k l (spell ls)))
+    ∙ sym (append-assoc letters (decimals ++ scalars) (spell ls) ∙ ap (λ (s : List ℕ). letters ++ s) (append-assoc decimals scalars (spell ls)))
+
+windows-of : (plan : Plan) → (first plan ≡ largest plan .p) × (second plan ≡ largest plan .q)
+windows-of J = (refl, refl)
+windows-of (I m1 m2) = (refl, refl)
+
+pub header-parts : (plan : Plan) (x s a d k l : ℕ) (w : Largest) → x ∷ [] ≡ kind (kindOf plan) → w ≡ largest plan → s ≡ slots plan
+    → headerBytes (heading plan a d k l) ≡ lettersOf (x ∷ []) ++ (decimalsOf (w .p) (w .q) s a d ++ scalarsOf k l)
+unfolding headerBytes
+header-parts plan x s a d k l w e f g =
+    let u = windows-of plan in
+    rw (e, f, g, u .0, u .1)
+
+-- ── the digits that the rows hold ───────────────────────────────────────────────────────────
+
+module _ (p q : List ℕ) (cs : List Column) (held : Holds p q cs) where
+  below : (n : ℕ) → n ≤ length cs → columnsBelow p q n ≡ reverse (take n cs)
+  unfolding columnsBelow
+  below zero h = refl
+  below (suc n) h =
+      ap₂ (λ (c : Column) (l : List Column). c ∷ l) (held .columns n) (below n (omega arith))
+      ∙ sym (ap reverse (take-suc cs n blankColumn h) ∙ reverse-append (take n cs) (getD cs n blankColumn ∷ []))
+
+  -- from the highest place down they are the columns
+  pub columns-below : columnsBelow p q (length cs) ≡ reverse cs
+  columns-below = below (length cs) (omega arith) ∙ ap reverse (take-length cs)
+
+  -- the top column
+  pub top-held : Topped cs → (top : ℕ) → length cs ≡ suc top → T (not (blank (columnAt p q top)))
+  top-held t top e = subst (λ (c : Column). T (not (blank c))) (sym (held .columns top)) (t top e)
+
+weight-turned : (plan : Plan) (xs ys : List Column) → weight plan (reverseAux xs ys) ≡ weight plan xs + weight plan ys
+weight-turned plan [] ys = omega (arith, weight-none plan)
+weight-turned plan (c ∷ xs) ys =
+    omega (arith, weight-turned plan xs (c ∷ ys), weight-more plan c xs, weight-more plan c ys)
+
+weight-reverse : (plan : Plan) (cs : List Column) → weight plan (reverse cs) ≡ weight plan cs
+weight-reverse plan cs = omega (arith, weight-turned plan cs [], weight-none plan)
+
+-- ── the sheet ───────────────────────────────────────────────────────────────────────────────
+
+end-bytes : spell (end ∷ []) ≡ 69 ∷ lineFeed ∷ []
+unfolding spell join
+end-bytes = refl
+
+sheet-bytes : (h : Header) (ts : List Point) (st : Steps)
+    → spell (sheetLines h ts st) ≡ headerBytes h ++ (spell (map table ts) ++ (spell (stepLines st) ++ (69 ∷ lineFeed ∷ [])))
+unfolding sheetLines
+sheet-bytes h ts st =
+    spell-header h (map table ts ++ (stepLines st ++ (end ∷ [])))
+    ∙ ap (λ (s : List ℕ). headerBytes h ++ s)
+    (spell-append (map table ts) (stepLines st ++ (end ∷ []))
+    ∙ ap (λ (s : List ℕ). spell (map table ts) ++ s) (spell-append (stepLines st) (end ∷ []) ∙ ap (λ (s : List ℕ). spell (stepLines st) ++ s) end-bytes))
+
+-- the parts of a sheet with the counts a and d, from the rows p and q
+abbrev pub partsOf : Plan → ℕ → ℕ → ℕ → ℕ → List ℕ → List ℕ → ℕ → List ℕ
+partsOf plan a d k l p q places =
+    headerBytes (heading plan a d k l)
+    ++ (spell (map table (tables plan)) ++ (spell (stepLines (stepsDown plan (columnsBelow p q places))) ++ (69 ∷ lineFeed ∷ [])))
+
+module _ {plan : Plan} {k l : ℕ} {p q : List ℕ} {places : ℕ} {out : List ℕ} (g : Ready plan k l p q places out) where
+  all-below : columnsBelow p q places ≡ reverse (digits plan k l)
+  all-below = ap (columnsBelow p q) (g .long) ∙ columns-below p q (digits plan k l) (g .held)
+
+  pub few-places : places ≤ 529
+  unfolding Bounded
+  few-places = subst (λ (n : ℕ). n ≤ 529) (sym (g .long)) (written-places plan k l (g .valid) (g .k-bounded) (g .l-bounded))
+
+  pub top-full : (top : ℕ) → places ≡ suc top → T (not (blank (columnAt p q top)))
+  top-full top e = top-held p q (digits plan k l) (g .held) (digits-top k l (g .valid)) top (sym (g .long) ∙ e)
+
+  -- what is counted are the additions and the doublings of the sheet
+  pub additions-are : (t w r : ℕ) → t ≡ tableAdditions plan → w ≡ weight plan (columnsBelow p q places) → r ≡ w - 1 → t + r ≡ writtenAdditions plan k l
+  unfolding Bounded
+  additions-are t w r e f h =
+      ap₂ (λ (x y : ℕ). x + y) e (h ∙ ap (λ (n : ℕ). n - 1) (f ∙ ap (weight plan) all-below ∙ weight-reverse plan (digits plan k l)))
+      ∙ sym (written-cost plan k l (g .valid) (g .k-bounded) (g .l-bounded))
+
+  pub doublings-are : (u r : ℕ) → u ≡ tableDoublings plan → r ≡ places - 1 → u + r ≡ doublings (writtenLines plan k l)
+  doublings-are u r e f = ap₂ (λ (x y : ℕ). x + y) e (f ∙ ap (λ (n : ℕ). n - 1) (g .long)) ∙ sym (written-doublings plan k l (g .valid))
+
+  -- the whole sheet
+  pub sheet-parts : (a d : ℕ) → a ≡ writtenAdditions plan k l → d ≡ doublings (writtenLines plan k l)
+      → written plan k l ≡ partsOf plan a d k l p q places
+  unfolding written stepsOf
+  sheet-parts a d e f =
+      ap spell (written-header plan k l)
+      ∙ sheet-bytes (heading plan (writtenAdditions plan k l) (doublings (writtenLines plan k l)) k l) (tables plan) (stepsDown plan (reverse (digits plan k l)))
+      ∙ sym (ap₂ (λ (x : Header) (cs : List Column). headerBytes x ++ (spell (map table (tables plan)) ++ (spell (stepLines (stepsDown plan cs)) ++ (69 ∷ lineFeed ∷ [])))) (ap₂ (λ (x y : ℕ). heading plan x y k l) e f) all-below)
+
+  pub fits-buffer : length (written plan k l) ≤ length out
+  unfolding Bounded
+  fits-buffer = le-trans (written-fits plan k l (g .valid) (g .k-bounded) (g .l-bounded)) (g .room)

@@ -1,0 +1,14 @@
+-- `is_scalar` meets its contract, by its tests.
+use mathlib.Core.Path.{refl}
+use Rattle.writer.proofs.PlanAnswers.{sized-none, sized-some}
+use Rattle.writer.proofs.plans.is_scalar.Statement.{statement}
+use Rattle.writer.proofs.plans.is_scalar.Tie as tie
+
+returns : tie.Need-returns
+returns c = sized-none (c .before .args .bytes .now) (c .if1 .taken)
+
+returns-2 : tie.Need-returns-2
+returns-2 c = sized-some (c .before .args .bytes .now) _ (c .if1 .left) refl
+
+pub is-scalar-spec : {M : Type 1} → statement M
+is-scalar-spec = tie.close (tie.spec returns returns-2)

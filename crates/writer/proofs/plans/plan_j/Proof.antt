@@ -1,0 +1,38 @@
+-- `plan_j` meets its contract: each return is one line of PlanAnswers.
+use mathlib.Core.Path.{sym, _∙_}
+use native.Mathlib.Omega.{arith}
+use Rattle.digits.specs.Limits.{card}
+use Rattle.writer.proofs.PlanAnswers.{j-scalar, j-room, j-written}
+use borrow.Author.Needs.{needs}
+use Rattle.writer.proofs.plans.plan_j.Statement.{statement}
+use Rattle.writer.proofs.plans.plan_j.Tie as tie
+
+are-scalars-requires : tie.Need-are-scalars-requires
+are-scalars-requires c κs = search needs
+
+returns : tie.Need-returns
+returns c =
+    let a = c .before .before .before .before .before .before .args in
+    j-room card (a .k .now) (a .l .now) (a .sheet .now) (sym (c .before .before .are-scalars .ensures) ∙ c .before .if1 .taken) (omega (arith, c .if2 .taken))
+
+write-j-requires : tie.Need-write-j-requires
+write-j-requires c κs = (sym (c .before .before .before .are-scalars .ensures) ∙ c .before .before .if1 .taken, c .before .if2 .left)
+
+same-length : tie.Need-same-length
+same-length c = search needs
+
+returns-2 : tie.Need-returns-2
+returns-2 c =
+    let w = c .before .before in
+    let a = w .before .before .before .before .before .before .before .before .args in
+    j-written card (a .k .now) (a .l .now) (a .sheet .now) (sym (w .before .before .before .before .are-scalars .ensures) ∙ w .before .before .before .if1 .taken) (w .before .before .if2 .left) (w .write-j .ensures .0) (w .write-j .ensures .1)
+
+returns-3 : tie.Need-returns-3
+returns-3 c =
+    let a = c .before .before .before .before .before .args in
+    j-scalar card (a .k .now) (a .l .now) (a .sheet .now) (sym (c .before .are-scalars .ensures) ∙ c .if1 .left)
+
+pub plan-j-spec : {M : Type 1} → statement M
+plan-j-spec =
+    tie.close
+    (tie.spec are-scalars-requires returns write-j-requires same-length returns-2 returns-3)

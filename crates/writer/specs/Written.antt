@@ -1,0 +1,105 @@
+-- The sheet that is written for two scalars and a plan: its digits are those of the row or joint form, from the highest
+-- place down to place 0.
+use mathlib.Core.Bool.{Bool, true, false, not, cond}
+use mathlib.Core.List.{List, [], _∷_, _++_, map, reverse}
+use Prim.Native.Nat.{ℕ, zero, suc}
+use lib.IntN.{ℤ, pos}
+use Rattle.digits.specs.Two.{Column, isZero, blank}
+use Rattle.recode.specs.Joint.{joint}
+use Rattle.recode.specs.Row.{row}
+use Rattle.sheet.specs.declared.Plan.{Plan}
+use Rattle.sheet.specs.declared.Plan.the-variants.{J, I}
+use Rattle.sheet.specs.Line.{Kind, Header, Line, interleaved}
+use Rattle.sheet.specs.Line as Line
+use Rattle.sheet.specs.Plan.{Point, point, slots, tables}
+use Rattle.sheet.specs.Questions.{additions, doublings}
+use Rattle.sheet.specs.Sound.{Moves, stop, doubled, added, Steps, nothing, loaded, sheetLines}
+use Rattle.sheet.specs.Spelling.{spell}
+
+-- two rows over the same places make columns; above its top a row has zeros
+unfoldable pub paired : List ℤ → List ℤ → List Column
+paired [] [] = []
+paired (a ∷ xs) [] = point a (pos 0) ∷ paired xs []
+paired [] (b ∷ ys) = point (pos 0) b ∷ paired [] ys
+paired (a ∷ xs) (b ∷ ys) = point a b ∷ paired xs ys
+
+-- the digits that a plan takes for k and l
+unfoldable pub digits : Plan → ℕ → ℕ → List Column
+digits J k l = joint (pos k) (pos l)
+digits (I m1 m2) k l = paired (row m1 (pos k)) (row m2 (pos l))
+
+-- t, unless it is 0P + 0Q
+abbrev pub unlessZero : Point → List Point
+unlessZero t = cond (blank t) [] (t ∷ [])
+
+-- the steps of a place: in J one for both, in I one for P and then one for Q
+abbrev pub placeSteps : Plan → Column → List Point
+placeSteps J c = unlessZero c
+placeSteps (I m1 m2) c = unlessZero (point (c .p) (pos 0)) ++ unlessZero (point (pos 0) (c .q))
+
+-- points added one after another
+unfoldable pub addAll : List Point → Moves → Moves
+addAll [] ms = ms
+addAll (t ∷ ts) ms = added t (addAll ts ms)
+
+-- the moves of the places below, from the highest down: a D, and the place's steps
+unfoldable pub movesOf : Plan → List Column → Moves
+movesOf p [] = stop
+movesOf p (c ∷ cs) = doubled (addAll (placeSteps p c) (movesOf p cs))
+
+-- the first step is the load
+abbrev pub load : List Point → Moves → Steps
+load [] ms = nothing
+load (t ∷ ts) ms = loaded t (addAll ts ms)
+
+-- the steps of columns from the highest place down: nothing where there is no digit
+abbrev pub stepsDown : Plan → List Column → Steps
+stepsDown p [] = nothing
+stepsDown p (c ∷ cs) = load (placeSteps p c) (movesOf p cs)
+
+-- the steps of columns, place 0 first
+unfoldable pub stepsOf : Plan → List Column → Steps
+stepsOf p cs = stepsDown p (reverse cs)
+
+-- the kind and the windows of a plan, as a header has them
+abbrev pub kindOf : Plan → Kind
+kindOf J = Line.joint
+kindOf (I m1 m2) = interleaved
+
+abbrev pub first : Plan → ℕ
+first J = 1
+first (I m1 m2) = m1
+
+abbrev pub second : Plan → ℕ
+second J = 1
+second (I m1 m2) = m2
+
+-- the header, with the counts of additions and doublings a and d
+abbrev pub heading : Plan → ℕ → ℕ → ℕ → ℕ → Header
+heading p a d k l =
+    record {
+      kind = kindOf p;
+      m1 = first p;
+      m2 = second p;
+      slots = slots p;
+      additions = a;
+      doublings = d;
+      k = k;
+      l = l;
+    }
+
+-- all lines, with the counts a and d in the header
+abbrev pub linesWith : Plan → ℕ → ℕ → ℕ → ℕ → List Line
+linesWith p a d k l = sheetLines (heading p a d k l) (tables p) (stepsOf p (digits p k l))
+
+-- the written lines: the counts are those of the lines, of which the header is none
+unfoldable pub writtenLines : Plan → ℕ → ℕ → List Line
+writtenLines p k l = linesWith p (additions (linesWith p 0 0 k l)) (doublings (linesWith p 0 0 k l)) k l
+
+-- the additions of the written sheet
+unfoldable pub writtenAdditions : Plan → ℕ → ℕ → ℕ
+writtenAdditions p k l = additions (writtenLines p k l)
+
+-- the written sheet
+unfoldable pub written : Plan → ℕ → ℕ → List ℕ
+written p k l = spell (writtenLines p k l)

@@ -1,0 +1,14 @@
+// Sheets of a named plan.
+mod answer;
+mod figures;
+mod header;
+mod plans;
+mod put;
+mod steps;
+mod tables;
+mod write;
+
+pub use answer::Sheet;
+pub use plans::are_scalars;
+pub use plans::plan_i;
+pub use plans::plan_j;

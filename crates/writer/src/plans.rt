@@ -1,0 +1,127 @@
+ghost use mathlib.Core.Path.{_≡_};
+ghost use mathlib.Core.Bool.{true, _&&_};
+ghost use mathlib.Core.List.{_++_};
+ghost use Prim.Native.Nat.{_≤_, max};
+ghost use lib.ListN.{length, drop};
+ghost use Rattle.digits.specs.Limits.{card};
+ghost use Rattle.digits.specs.Row.{isWindow};
+ghost use Rattle.digits.specs.Scalar.{scalar};
+ghost use Rattle.recode.specs.Call;
+ghost use Rattle.sheet.specs.declared.Plan.the-variants.{J, I};
+ghost use Rattle.writer.specs.Call.{wrote, jAnswer, jBuffer, iAnswer, iBuffer};
+ghost use Rattle.writer.specs.Written.{written};
+use crate::answer::Sheet;
+use crate::write::PLACES;
+use recode::Recoded;
+use sheet::Plan;
+
+// The most bytes of a scalar, and the bytes of a sheet buffer.
+const BYTES: usize = 66;
+
+const SHEET: usize = 16384;
+
+// The sheet of plan J.
+pub fn plan_j(k: &[u8], l: &[u8], sheet: &mut [u8]) -> Sheet
+    ensures answer { λ r. ⌜ r ≡ jAnswer card (now (k .entry)) (now (l .entry)) (length (now (sheet .entry))) ⌝ }
+    ensures buffer { λ _. ⌜ now (sheet .exit) ≡ jBuffer card (now (k .entry)) (now (l .entry)) (now (sheet .entry)) ⌝ }
+{
+    if are_scalars(k, l) {
+        if sheet.len() < SHEET {
+            return Sheet::NoRoom;
+        }
+        return write_j(k, l, sheet);
+    }
+    Sheet::BadScalar
+}
+
+// The sheet of plan I with the windows m1 for P and m2 for Q.
+pub fn plan_i(k: &[u8], l: &[u8], m1: u32, m2: u32, sheet: &mut [u8]) -> Sheet
+    ensures answer { λ r. ⌜ r ≡ iAnswer card (now (k .entry)) (now (l .entry)) m1 m2 (length (now (sheet .entry))) ⌝ }
+    ensures buffer { λ _. ⌜ now (sheet .exit) ≡ iBuffer card (now (k .entry)) (now (l .entry)) m1 m2 (now (sheet .entry)) ⌝ }
+{
+    if are_scalars(k, l) {
+        if are_windows(m1, m2) {
+            if sheet.len() < SHEET {
+                return Sheet::NoRoom;
+            }
+            return write_i(k, l, m1, m2, sheet);
+        }
+        return Sheet::BadWindow;
+    }
+    Sheet::BadScalar
+}
+
+// Question 1: whether a scalar has 1 to 66 bytes.
+fn is_scalar(bytes: &[u8]) -> bool
+    ensures { λ r. ⌜ r ≡ Call.sized card (now (bytes .entry)) ⌝ }
+{
+    if bytes.len() == 0 {
+        return false;
+    }
+    bytes.len() <= BYTES
+}
+
+// Question 1 of both scalars.
+pub fn are_scalars(k: &[u8], l: &[u8]) -> bool
+    ensures { λ r. ⌜ r ≡ (Call.sized card (now (k .entry)) && Call.sized card (now (l .entry))) ⌝ }
+{
+    if is_scalar(k) {
+        return is_scalar(l);
+    }
+    false
+}
+
+// Question 2 of both windows.
+fn are_windows(m1: u32, m2: u32) -> bool
+    ensures { λ r. ⌜ r ≡ (isWindow m1 && isWindow m2) ⌝ }
+{
+    if Plan::is_window(m1) {
+        return Plan::is_window(m2);
+    }
+    false
+}
+
+// How many places were written.
+fn places_of(recoded: Recoded) -> usize
+    ensures { λ r. ⌜ r ≡ Call.length recoded ⌝ }
+{
+    match recoded {
+        Recoded::BadScalar => 0,
+        Recoded::BadWindow => 0,
+        Recoded::NoRoom => 0,
+        Recoded::Written(places) => places,
+    }
+}
+
+// The larger of two numbers.
+fn larger(a: usize, b: usize) -> usize
+    ensures { λ r. ⌜ r ≡ max a b ⌝ }
+{
+    if a < b { b } else { a }
+}
+
+// Writes the sheet of plan J.
+fn write_j(k: &[u8], l: &[u8], sheet: &mut [u8]) -> Sheet
+    requires { ⌜ ((Call.sized card (now k) && Call.sized card (now l)) ≡ true) × (card .sheet ≤ length (now sheet)) ⌝ }
+    ensures { λ r. ⌜ r ≡ wrote J (now (k .entry)) (now (l .entry)) ⌝ }
+    ensures { λ _. ⌜ now (sheet .exit) ≡ written J (scalar (now (k .entry))) (scalar (now (l .entry))) ++ drop (length (written J (scalar (now (k .entry))) (scalar (now (l .entry))))) (now (sheet .entry)) ⌝ }
+{
+    let mut p = [0u8; PLACES];
+    let mut q = [0u8; PLACES];
+    let places = places_of(recode::joint(k, l, &mut p, &mut q));
+    crate::write::write_sheet(sheet, Plan::J, k, l, &p, &q, places)
+}
+
+// Writes the sheet of plan I.
+fn write_i(k: &[u8], l: &[u8], m1: u32, m2: u32, sheet: &mut [u8]) -> Sheet
+    requires { ⌜ ((Call.sized card (now k) && Call.sized card (now l)) ≡ true) × (((isWindow m1 && isWindow m2) ≡ true) × (card .sheet ≤ length (now sheet))) ⌝ }
+    ensures { λ r. ⌜ r ≡ wrote (I m1 m2) (now (k .entry)) (now (l .entry)) ⌝ }
+    ensures { λ _. ⌜ now (sheet .exit) ≡ written (I m1 m2) (scalar (now (k .entry))) (scalar (now (l .entry))) ++ drop (length (written (I m1 m2) (scalar (now (k .entry))) (scalar (now (l .entry))))) (now (sheet .entry)) ⌝ }
+{
+    let mut p = [0u8; PLACES];
+    let mut q = [0u8; PLACES];
+    let first = places_of(recode::row(k, m1, &mut p));
+    let second = places_of(recode::row(l, m2, &mut q));
+    let places = larger(first, second);
+    crate::write::write_sheet(sheet, Plan::I(m1, m2), k, l, &p, &q, places)
+}

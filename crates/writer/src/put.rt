@@ -1,0 +1,73 @@
+ghost use mathlib.Core.Path.{_≡_};
+ghost use mathlib.Core.List.{_∷_, []};
+ghost use Prim.Native.Nat.{_<_, _≤_};
+ghost use Rattle.sheet.specs.Numeral.{figure, numeral};
+ghost use Rattle.sheet.specs.Plan.{point};
+ghost use Rattle.sheet.specs.Spelling;
+ghost use Rattle.writer.specs.Parts.{Put, Room, signed, pointLine};
+
+// Each of these puts bytes at a place of the buffer, and returns the place behind them.
+
+pub fn put_byte(out: &mut [u8], at: usize, byte: u8) -> usize
+    requires { ⌜ Room (now out) at (byte ∷ []) ⌝ }
+    ensures { λ r. ⌜ Put (now (out .entry)) (now (out .exit)) at r (byte ∷ []) ⌝ }
+{
+    out[at] = byte;
+    at + 1
+}
+
+// The byte of a figure: 0 to 9, then a to f.
+fn figure(n: u32) -> u8
+    requires { ⌜ n < 16 ⌝ }
+    ensures { λ r. ⌜ r ≡ figure n ⌝ }
+{
+    if n < 10 {
+        (48 + n) as u8
+    } else {
+        (87 + n) as u8
+    }
+}
+
+pub fn put_figure(out: &mut [u8], at: usize, n: u32) -> usize
+    requires { ⌜ (n < 16) × Room (now out) at (figure n ∷ []) ⌝ }
+    ensures { λ r. ⌜ Put (now (out .entry)) (now (out .exit)) at r (figure n ∷ []) ⌝ }
+{
+    put_byte(out, at, figure(n))
+}
+
+// The figures of n with no leading zero.
+pub fn put_numeral(out: &mut [u8], at: usize, base: u32, n: u32) -> usize
+    requires { ⌜ ((2 ≤ base) × (base ≤ 16)) × Room (now out) at (numeral base n) ⌝ }
+    ensures { λ r. ⌜ Put (now (out .entry)) (now (out .exit)) at r (numeral base n) ⌝ }
+{
+    if n < base {
+        return put_figure(out, at, n);
+    }
+    let next = put_numeral(out, at, base, n / base);
+    put_figure(out, next, n % base)
+}
+
+// A digit, which is a byte in two's complement: a decimal, with a minus if negative.
+pub fn put_digit(out: &mut [u8], at: usize, digit: u8) -> usize
+    requires { ⌜ Room (now out) at (Spelling.digit (signed digit)) ⌝ }
+    ensures { λ r. ⌜ Put (now (out .entry)) (now (out .exit)) at r (Spelling.digit (signed digit)) ⌝ }
+{
+    if digit < 128 {
+        return put_numeral(out, at, 10, digit as u32);
+    }
+    let next = put_byte(out, at, b'-');
+    put_numeral(out, next, 10, 256 - digit as u32)
+}
+
+// A line of a letter and a point.
+pub fn put_point(out: &mut [u8], at: usize, letter: u8, p: u8, q: u8) -> usize
+    requires { ⌜ Room (now out) at (pointLine letter (point (signed p) (signed q))) ⌝ }
+    ensures { λ r. ⌜ Put (now (out .entry)) (now (out .exit)) at r (pointLine letter (point (signed p) (signed q))) ⌝ }
+{
+    let a = put_byte(out, at, letter);
+    let b = put_byte(out, a, b',');
+    let c = put_digit(out, b, p);
+    let d = put_byte(out, c, b',');
+    let e = put_digit(out, d, q);
+    put_byte(out, e, b'\n')
+}

@@ -1,0 +1,70 @@
+ghost use mathlib.Core.Path.{_≡_};
+ghost use mathlib.Core.Bool.{not};
+ghost use mathlib.Core.List.{_++_};
+ghost use Prim.Native.Nat.{ℕ, suc, _-_, _≤_};
+ghost use lib.Dec.{T};
+ghost use lib.ListN.{length, drop};
+ghost use Rattle.digits.specs.Scalar.{scalar};
+ghost use Rattle.digits.specs.Two.{blank};
+ghost use Rattle.sheet.specs.Sound.{stepLines};
+ghost use Rattle.sheet.specs.Spelling.{spell};
+ghost use Rattle.writer.specs.Parts.{Put, Room, columnAt, columnsBelow, Ready};
+ghost use Rattle.writer.specs.Written.{stepsDown, written, writtenAdditions};
+use crate::answer::Sheet;
+use sheet::Plan;
+
+// The most places of a scalar's digits.
+pub const PLACES: usize = 529;
+
+// One less, or 0.
+fn less_one(n: u32) -> u32
+    ensures { λ r. ⌜ r ≡ n - 1 ⌝ }
+{
+    if n == 0 {
+        return 0;
+    }
+    n - 1
+}
+
+// The steps of all places, or nothing where there is no place.
+fn put_places(
+    out: &mut [u8],
+    at: usize,
+    plan: Plan,
+    p: &[u8; PLACES],
+    q: &[u8; PLACES],
+    places: usize,
+) -> usize
+    requires { ⌜ (places ≤ 529) × ((top : ℕ) → places ≡ suc top → T (not (blank (columnAt (now p) (now q) top)))) ⌝ }
+    requires { ⌜ Room (now out) at (spell (stepLines (stepsDown plan (columnsBelow (now p) (now q) places)))) ⌝ }
+    ensures { λ r. ⌜ Put (now (out .entry)) (now (out .exit)) at r (spell (stepLines (stepsDown plan (columnsBelow (now (p .entry)) (now (q .entry)) places)))) ⌝ }
+{
+    if places == 0 {
+        return at;
+    }
+    crate::steps::put_all(out, at, plan, p, q, places - 1)
+}
+
+// Writes the sheet of two scalars for a plan, of whose digits the two rows hold the bytes.
+pub fn write_sheet(
+    out: &mut [u8],
+    plan: Plan,
+    k: &[u8],
+    l: &[u8],
+    p: &[u8; PLACES],
+    q: &[u8; PLACES],
+    places: usize,
+) -> Sheet
+    requires { ⌜ Ready plan (scalar (now k)) (scalar (now l)) (now p) (now q) places (now out) ⌝ }
+    ensures { λ r. ⌜ r ≡ Sheet.Written (length (written plan (scalar (now (k .entry))) (scalar (now (l .entry))))) (writtenAdditions plan (scalar (now (k .entry))) (scalar (now (l .entry)))) ⌝ }
+    ensures { λ _. ⌜ now (out .exit) ≡ written plan (scalar (now (k .entry))) (scalar (now (l .entry))) ++ drop (length (written plan (scalar (now (k .entry))) (scalar (now (l .entry))))) (now (out .entry)) ⌝ }
+{
+    let weight = crate::steps::weigh(plan, p, q, places);
+    let additions = plan.table_additions() + less_one(weight);
+    let doublings = plan.table_doublings() + less_one(places as u32);
+    let a = crate::header::put_header(out, 0, plan, additions, doublings, k, l);
+    let b = crate::tables::put_tables(out, a, plan);
+    let c = put_places(out, b, plan, p, q, places);
+    let d = crate::steps::put_letter(out, c, b'E');
+    Sheet::Written(d, additions)
+}
