@@ -1,0 +1,87 @@
+-- The answer and the buffer of the call for the cheapest sheet, by the first question missed, and where all are met.
+use mathlib.Core.Path.{_≡_, refl, sym, ap, subst, _∙_}
+use mathlib.Core.Bool.{Bool, true, false, _&&_, cond, and-eq-true-iff}
+use mathlib.Core.List.{List}
+use Prim.Native.Nat.{ℕ, _≤_, _<_, _^_}
+use lib.Dec.{leb, ltb}
+use lib.ListN.{length}
+use borrow.Author.Tests.{le-leb, lt-leb, leb-true, ltb-true}
+use Rattle.digits.specs.Bytes.{Bytes}
+use Rattle.digits.specs.Limits.{Limits, card}
+use Rattle.digits.specs.Scalar.{scalar}
+use Rattle.recode.specs.Call.{sized}
+use Rattle.sheet.specs.declared.Plan.{Plan}
+use Rattle.sheet.specs.declared.Plan.the-variants.{J, I}
+use Rattle.sheet.specs.Planned.{of-window}
+use Rattle.writer.specs.declared.answer.Sheet.{Sheet}
+use Rattle.writer.specs.declared.answer.Sheet.the-variants.{BadScalar, NoRoom, BadLimit}
+use Rattle.writer.specs.Call.{roomy, wrote, left, jAnswer, jBuffer, iAnswer, iBuffer}
+use Rattle.writer.specs.Met.{both, bounded}
+use Rattle.writer.specs.Valid.{Valid, forJ, forI}
+use Rattle.writer.specs.Written.{written}
+use Rattle.chooser.specs.Call.{planAnswer, planBuffer, cheapestAnswer, cheapestBuffer, Promised}
+use Rattle.chooser.specs.Cheapest.{cheapestPlan, cheapest}
+use Rattle.chooser.specs.Least.{plan-within}
+use Rattle.chooser.specs.Promise.{cheapest-promised}
+
+-- a scalar of 1 to 66 bytes
+pub some-bytes : (s : List ℕ) → sized card s ≡ true → (1 ≤ length s) × (length s ≤ 66)
+some-bytes s e =
+    let z = and-eq-true-iff (ltb 0 (length s)) (leb (length s) 66) .0 e in
+    (ltb-true 0 (length s) (z .0), leb-true (length s) 66 (z .1))
+
+module _ (k l buffer : List ℕ) (limit : ℕ) where
+  -- what the call returns and leaves, where its answer is a
+  abbrev pub Returned : Sheet → List ℕ → Type 0
+  Returned a out =
+      (a ≡ cheapestAnswer card k l limit (length buffer))
+      × ((out ≡ cheapestBuffer card k l limit buffer) × Promised a out (scalar k) (scalar l) limit)
+
+  module _ (k-bytes : Bytes k) (l-bytes : Bytes l) where
+    bounds : (sized card k && sized card l) ≡ true → (scalar k < 2 ^ 528) × (scalar l < 2 ^ 528)
+    bounds e =
+        let (a, b) = both (sized card k) (sized card l) e in
+        (bounded k k-bytes a, bounded l l-bytes b)
+
+    -- the promise goes with the answer and the buffer
+    promised : {a : Sheet} {out : List ℕ} → a ≡ cheapestAnswer card k l limit (length buffer) → out ≡ cheapestBuffer card k l limit buffer → Returned a out
+    promised {a} {out} e f =
+        (e, (f, subst (λ (x : Sheet). Promised x out (scalar k) (scalar l) limit) (sym e) (subst (λ (b : List ℕ). Promised (cheapestAnswer card k l limit (length buffer)) b (scalar k) (scalar l) limit) (sym f) (cheapest-promised k l limit buffer bounds))))
+
+    refused : (a : Sheet) → cheapestAnswer card k l limit (length buffer) ≡ a → Returned a (left a (cheapest (scalar k) (scalar l) limit) buffer)
+    unfolding cheapestBuffer
+    refused a e = promised (sym e) (sym (ap (λ (x : Sheet). left x (cheapest (scalar k) (scalar l) limit) buffer) e))
+
+    pub not-scalars : (sized card k && sized card l) ≡ false → Returned BadScalar buffer
+    unfolding cheapestAnswer
+    not-scalars e = refused BadScalar (rw e)
+
+    module _ (sizes : (sized card k && sized card l) ≡ true) where
+      pub over-limit : 30 < limit → Returned BadLimit buffer
+      unfolding cheapestAnswer
+      over-limit h = refused BadLimit (rw (sizes, lt-leb limit 30 h))
+
+      -- a valid plan's call asks only for room
+      plan-answer : {p : Plan} → Valid p → planAnswer card p k l (length buffer) ≡ cond (roomy card (length buffer)) (wrote p k l) NoRoom
+      unfolding jAnswer iAnswer
+      plan-answer forJ = rw sizes
+      plan-answer (forI v w) = rw (sizes, of-window v, of-window w)
+
+      plan-buffer : {p : Plan} → Valid p → planBuffer card p k l buffer ≡ left (planAnswer card p k l (length buffer)) (written p (scalar k) (scalar l)) buffer
+      unfolding jBuffer iBuffer
+      plan-buffer forJ = refl
+      plan-buffer (forI v w) = refl
+
+      module _ (low : limit ≤ 30) where
+        answered : cheapestAnswer card k l limit (length buffer) ≡ planAnswer card (cheapestPlan (scalar k) (scalar l) limit) k l (length buffer)
+        unfolding cheapestAnswer
+        answered = rw (sizes, le-leb limit 30 low) (sym (plan-answer (plan-within (scalar k) (scalar l) limit .0)))
+
+        pub by-plan : {a : Sheet} {out : List ℕ} {p : Plan} → p ≡ cheapestPlan (scalar k) (scalar l) limit
+            → a ≡ planAnswer card p k l (length buffer) → out ≡ planBuffer card p k l buffer → Returned a out
+        unfolding cheapestBuffer cheapest
+        by-plan {p} g e f =
+            promised
+            (e ∙ ap (λ (q : Plan). planAnswer card q k l (length buffer)) g ∙ sym answered)
+            (f ∙ ap (λ (q : Plan). planBuffer card q k l buffer) g ∙ plan-buffer (plan-within (scalar k) (scalar l) limit .0)
+            ∙ ap (λ (x : Sheet). left x (written (cheapestPlan (scalar k) (scalar l) limit) (scalar k) (scalar l)) buffer) (sym answered))

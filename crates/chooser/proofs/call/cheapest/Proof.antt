@@ -1,0 +1,59 @@
+-- `cheapest` meets its contract: each return is one line of CallAnswers.
+use mathlib.Core.Path.{sym, _∙_}
+use mathlib.Core.Bool.{and-eq-true-iff}
+use Rattle.digits.specs.Limits.{card}
+use Rattle.recode.specs.Call.{sized}
+use Rattle.chooser.proofs.CallAnswers.{some-bytes, not-scalars, over-limit, by-plan}
+use borrow.Author.Needs.{needs}
+use Rattle.chooser.proofs.call.cheapest.Statement.{statement}
+use Rattle.chooser.proofs.call.cheapest.Tie as tie
+
+are-scalars-requires : tie.Need-are-scalars-requires
+are-scalars-requires c κs = search needs
+
+returns : tie.Need-returns
+returns c =
+    let s = c .before .before in
+    let a = s .before .before .before .before .args in
+    over-limit (a .k .now) (a .l .now) (a .sheet .now) (a .limit) (λ i. s .before .before .before .shared-slice-known .given i .fits) (λ i. s .before .before .shared-slice-known2 .given i .fits) (sym (s .are-scalars .ensures) ∙ c .before .if1 .taken) (c .if2 .taken)
+
+cheapest-plan-requires : tie.Need-cheapest-plan-requires
+cheapest-plan-requires c κs =
+    let s = c .before .before in
+    let a = s .before .before .before .before .args in
+    let z = and-eq-true-iff (sized card (a .k .now)) (sized card (a .l .now)) .0 (sym (s .are-scalars .ensures) ∙ c .before .if1 .taken) in
+    let k = some-bytes (a .k .now) (z .0) in
+    let l = some-bytes (a .l .now) (z .1) in
+    (k .0, (k .1, (l .0, l .1)))
+
+sheet-of-requires : tie.Need-sheet-of-requires
+sheet-of-requires c κs = search needs
+
+same-length : tie.Need-same-length
+same-length c = search needs
+
+returns-2 : tie.Need-returns-2
+returns-2 c =
+    let w = c .before .before in
+    let v = w .before .before in
+    let s = v .before .before .before in
+    let a = s .before .before .before .before .args in
+    by-plan (a .k .now) (a .l .now) (a .sheet .now) (a .limit) (λ i. s .before .before .before .shared-slice-known .given i .fits) (λ i. s .before .before .shared-slice-known2 .given i .fits) (sym (s .are-scalars .ensures) ∙ v .before .before .if1 .taken) (v .before .if2 .left) (v .cheapest-plan .ensures) (w .sheet-of .ensures .0) (w .sheet-of .ensures .1)
+
+returns-3 : tie.Need-returns-3
+returns-3 c =
+    let s = c .before in
+    let a = s .before .before .before .before .args in
+    not-scalars (a .k .now) (a .l .now) (a .sheet .now) (a .limit) (λ i. s .before .before .before .shared-slice-known .given i .fits) (λ i. s .before .before .shared-slice-known2 .given i .fits) (sym (s .are-scalars .ensures) ∙ c .if1 .left)
+
+pub cheapest-spec : {M : Type 1} → statement M
+cheapest-spec =
+    tie.close
+    (tie.spec
+    are-scalars-requires
+    returns
+    cheapest-plan-requires
+    sheet-of-requires
+    same-length
+    returns-2
+    returns-3)

@@ -1,0 +1,59 @@
+-- `sheet_of` meets its contract: each plan's call.
+use mathlib.Core.Path.{_≡_, sym, ap, _∙_}
+use mathlib.Core.List.{List}
+use lib.ListN.{length}
+use Rattle.digits.specs.Limits.{card}
+use Rattle.sheet.specs.declared.Plan.{Plan}
+use Rattle.chooser.specs.Call.{planAnswer, planBuffer}
+use borrow.Author.Needs.{needs}
+use Rattle.chooser.proofs.call.sheet_of.Statement.{statement}
+use Rattle.chooser.proofs.call.sheet_of.Tie as tie
+
+enum-told : tie.Need-enum-told
+enum-told c = search needs
+
+plan-j-requires : tie.Need-plan-j-requires
+plan-j-requires c κs = search needs
+
+enum-known-plan : tie.Need-enum-known-plan
+enum-known-plan c = search needs
+
+plan-i-requires : tie.Need-plan-i-requires
+plan-i-requires c κs = search needs
+
+same-length : tie.Need-same-length
+same-length c = search needs
+
+returns : tie.Need-returns
+returns c =
+    let w = c .before .before in
+    let a = w .before .before .before .before .before .before .before .args in
+    let e = w .before .before .enum-told .given .1 in (
+      w .plan-j .ensures .0 ∙ ap (λ (p : Plan). planAnswer card p (a .k .now) (a .l .now) (length (a .sheet .now))) (sym e),
+      w .plan-j .ensures .1 ∙ ap (λ (p : Plan). planBuffer card p (a .k .now) (a .l .now) (a .sheet .now)) (sym e),
+    )
+
+same-length-2 : tie.Need-same-length-2
+same-length-2 c = search needs
+
+returns-2 : tie.Need-returns-2
+returns-2 c =
+    let w = c .before .before in
+    let a = w .before .before .before .before .before .before .before .before .args in
+    let e = w .before .before .before .plan .given .1 in (
+      w .plan-i .ensures .0 ∙ ap (λ (p : Plan). planAnswer card p (a .k .now) (a .l .now) (length (a .sheet .now))) (sym e),
+      w .plan-i .ensures .1 ∙ ap (λ (p : Plan). planBuffer card p (a .k .now) (a .l .now) (a .sheet .now)) (sym e),
+    )
+
+pub sheet-of-spec : {M : Type 1} → statement M
+sheet-of-spec =
+    tie.close
+    (tie.spec
+    enum-told
+    plan-j-requires
+    enum-known-plan
+    plan-i-requires
+    same-length
+    returns
+    same-length-2
+    returns-2)

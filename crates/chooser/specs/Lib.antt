@@ -1,0 +1,9 @@
+pub mod Lexicographic
+pub mod Cheapest
+pub mod Lists
+pub mod Least
+pub mod Demand3
+pub mod Weights
+pub mod Choice
+pub mod Call
+pub mod Promise

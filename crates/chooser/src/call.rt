@@ -1,0 +1,33 @@
+ghost use mathlib.Core.Path.{_≡_};
+ghost use lib.ListN.{length};
+ghost use Rattle.digits.specs.Limits.{card};
+ghost use Rattle.digits.specs.Scalar.{scalar};
+ghost use Rattle.chooser.specs.Call.{planAnswer, planBuffer, cheapestAnswer, cheapestBuffer, Promised};
+use sheet::Plan;
+use writer::Sheet;
+
+// The sheet of a plan.
+fn sheet_of(plan: Plan, k: &[u8], l: &[u8], sheet: &mut [u8]) -> Sheet
+    ensures { λ r. ⌜ r ≡ planAnswer card plan (now (k .entry)) (now (l .entry)) (length (now (sheet .entry))) ⌝ }
+    ensures { λ _. ⌜ now (sheet .exit) ≡ planBuffer card plan (now (k .entry)) (now (l .entry)) (now (sheet .entry)) ⌝ }
+{
+    match plan {
+        Plan::J => writer::plan_j(k, l, sheet),
+        Plan::I(m1, m2) => writer::plan_i(k, l, m1, m2, sheet),
+    }
+}
+
+// The cheapest sheet for k and l that needs no more slots than the limit.
+pub fn cheapest(k: &[u8], l: &[u8], limit: u32, sheet: &mut [u8]) -> Sheet
+    ensures answer { λ r. ⌜ r ≡ cheapestAnswer card (now (k .entry)) (now (l .entry)) limit (length (now (sheet .entry))) ⌝ }
+    ensures buffer { λ _. ⌜ now (sheet .exit) ≡ cheapestBuffer card (now (k .entry)) (now (l .entry)) limit (now (sheet .entry)) ⌝ }
+    ensures promised { λ r. ⌜ Promised r (now (sheet .exit)) (scalar (now (k .entry))) (scalar (now (l .entry))) limit ⌝ }
+{
+    if writer::are_scalars(k, l) {
+        if Plan::MOST_SLOTS < limit {
+            return Sheet::BadLimit;
+        }
+        return sheet_of(crate::choice::cheapest_plan(k, l, limit), k, l, sheet);
+    }
+    Sheet::BadScalar
+}

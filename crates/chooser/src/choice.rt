@@ -1,0 +1,155 @@
+ghost use mathlib.Core.Path.{_≡_};
+ghost use mathlib.Core.Bool.{cond};
+ghost use Prim.Native.Nat.{_-_, _/_, _<_, _≤_};
+ghost use lib.ListN.{length, getD};
+ghost use Rattle.digits.specs.Scalar.{scalar};
+ghost use Rattle.sheet.specs.declared.Plan.{Plan};
+ghost use Rattle.sheet.specs.Plan.{isWithin};
+ghost use Rattle.writer.specs.Written.{first};
+ghost use Rattle.chooser.specs.Cheapest.{cheapestPlan, plans, rank, within};
+ghost use Rattle.chooser.specs.Choice.{keyOf, planWeight, costKey};
+ghost use Rattle.chooser.specs.Lexicographic.{before, better, least};
+use sheet::Plan;
+
+// What decides between plans, in order.
+pub struct Cost {
+    pub additions: u64,
+    pub slots: u32,
+    pub rank: u32,
+    pub first: u32,
+}
+
+impl Cost {
+    // Whether this comes before the other.
+    fn comes_before(self, other: Cost) -> bool
+        ensures { λ r. ⌜ r ≡ before (keyOf self) (keyOf other) ⌝ }
+    {
+        if self.additions != other.additions {
+            return self.additions < other.additions;
+        }
+        if self.slots != other.slots {
+            return self.slots < other.slots;
+        }
+        if self.rank != other.rank {
+            return self.rank < other.rank;
+        }
+        self.first < other.first
+    }
+}
+
+// One less, and 0 of 0.
+fn less_one(n: u64) -> u64
+    ensures { λ r. ⌜ r ≡ n - 1 ⌝ }
+{
+    if n == 0 {
+        return 0;
+    }
+    n - 1
+}
+
+// The weight for the window m, of those for 1, 3, 5 and so on.
+fn weight_for(weights: &[u32], m: u32) -> u64
+    ensures { λ r. ⌜ r ≡ getD (now (weights .entry)) ((m - 1) / 2) 0 ⌝ }
+    ensures { λ r. ⌜ r < 4294967296 ⌝ }
+{
+    let at = (less_one(m as u64) / 2) as usize;
+    if at < weights.len() {
+        weights[at] as u64
+    } else {
+        0
+    }
+}
+
+// What a plan counts: joint columns, or the digits of both rows.
+fn plan_weight(plan: Plan, k: &[u32], l: &[u32], joint: u32) -> u64
+    ensures { λ r. ⌜ r ≡ planWeight plan (now (k .entry)) (now (l .entry)) joint ⌝ }
+    ensures { λ r. ⌜ r < 8589934592 ⌝ }
+{
+    match plan {
+        Plan::J => joint as u64,
+        Plan::I(m1, m2) => weight_for(k, m1) + weight_for(l, m2),
+    }
+}
+
+// J before I.
+fn rank_of(plan: Plan) -> u32
+    ensures { λ r. ⌜ r ≡ rank plan ⌝ }
+{
+    match plan {
+        Plan::J => 0,
+        Plan::I(_, _) => 1,
+    }
+}
+
+// The first window.
+fn first_of(plan: Plan) -> u32
+    ensures { λ r. ⌜ r ≡ first plan ⌝ }
+{
+    match plan {
+        Plan::J => 1,
+        Plan::I(m1, _) => m1,
+    }
+}
+
+// The cost of a plan, from the weights of the scalars.
+fn cost_of(plan: Plan, k: &[u32], l: &[u32], joint: u32) -> Cost
+    ensures { λ r. ⌜ keyOf r ≡ costKey (now (k .entry)) (now (l .entry)) joint plan ⌝ }
+{
+    let table = plan.table_additions();
+    let weight = plan_weight(plan, k, l, joint);
+    Cost {
+        additions: table as u64 + less_one(weight),
+        slots: plan.slots(),
+        rank: rank_of(plan),
+        first: first_of(plan),
+    }
+}
+
+// The n-th plan: J, and then the plans I by m1 and by m2.
+fn plan_at(n: u32) -> Plan
+    requires { ⌜ n < 257 ⌝ }
+    ensures { λ r. ⌜ r ≡ getD plans n Plan.J ⌝ }
+{
+    if n == 0 {
+        return Plan::J;
+    }
+    let at = n - 1;
+    Plan::I(2 * (at / 16) + 1, 2 * (at % 16) + 1)
+}
+
+// The better of the best plan so far and the next one, which may need more slots than the limit.
+fn better_of(best: Plan, plan: Plan, k: &[u32], l: &[u32], joint: u32, limit: u32) -> Plan
+    ensures { λ r. ⌜ r ≡ cond (isWithin plan limit) (better (costKey (now (k .entry)) (now (l .entry)) joint) best plan) best ⌝ }
+{
+    if plan.is_within(limit) {
+        if cost_of(plan, k, l, joint).comes_before(cost_of(best, k, l, joint)) {
+            return plan;
+        }
+    }
+    best
+}
+
+// The first of the least plans within the limit, by the weights of the scalars.
+fn least_plan(k: &[u32], l: &[u32], joint: u32, limit: u32) -> Plan
+    ensures { λ r. ⌜ r ≡ least (costKey (now (k .entry)) (now (l .entry)) joint) (Plan.I 1 1) (within limit plans) ⌝ }
+{
+    let mut best = Plan::I(1, 1);
+    let mut n = 0;
+    while n < 257 {
+        let next = better_of(best, plan_at(n), k, l, joint, limit);
+        best = next;
+        n += 1;
+    }
+    best
+}
+
+// The cheapest plan for two scalars within the limit.
+pub fn cheapest_plan(k: &[u8], l: &[u8], limit: u32) -> Plan
+    requires { ⌜ (1 ≤ length (now k)) × ((length (now k) ≤ 66) × ((1 ≤ length (now l)) × (length (now l) ≤ 66))) ⌝ }
+    ensures { λ r. ⌜ r ≡ cheapestPlan (scalar (now (k .entry))) (scalar (now (l .entry))) limit ⌝ }
+{
+    let k_weights = crate::weights::row_weights(k);
+    let l_weights = crate::weights::row_weights(l);
+    let joint = crate::weights::joint_weight(k, l);
+    least_plan(&k_weights, &l_weights, joint, limit)
+}

@@ -1,0 +1,91 @@
+ghost use mathlib.Core.Path.{_≡_};
+ghost use Prim.Native.Nat.{_+_, _%_, _<_, _≤_};
+ghost use lib.IntN.{pos};
+ghost use lib.ListN.{length};
+ghost use Rattle.digits.specs.Column;
+ghost use Rattle.digits.specs.Row;
+ghost use Rattle.digits.specs.Scalar.{scalar};
+ghost use Rattle.digits.specs.Two.{two};
+ghost use Rattle.recode.specs.Joint.{joint};
+ghost use Rattle.recode.specs.Row as Rows;
+ghost use Rattle.chooser.specs.Weights.{marked, nonzero, nonzeroPairs, rowWeights};
+
+// 1 where a byte is not 0.
+fn mark(byte: u8) -> u32
+    ensures { λ r. ⌜ r ≡ marked byte ⌝ }
+{
+    if byte == 0 { 0 } else { 1 }
+}
+
+// 1 where one of two bytes is not 0.
+fn mark_either(a: u8, b: u8) -> u32
+    ensures { λ r. ⌜ r ≡ marked (a + b) ⌝ }
+{
+    if a == 0 {
+        return mark(b);
+    }
+    1
+}
+
+// How many of the bytes are not 0.
+fn count(bytes: &[u8]) -> u32
+    requires { ⌜ length (now bytes) ≤ 529 ⌝ }
+    ensures { λ r. ⌜ r ≡ nonzero (now (bytes .entry)) ⌝ }
+{
+    let mut n = 0;
+    let mut i = 0;
+    while i < bytes.len() {
+        n += mark(bytes[i]);
+        i += 1;
+    }
+    n
+}
+
+// How many of the places are not 0 in one of two lists of bytes.
+fn count_pairs(a: &[u8], b: &[u8]) -> u32
+    requires { ⌜ (length (now a) ≤ 529) × (length (now b) ≡ length (now a)) ⌝ }
+    ensures { λ r. ⌜ r ≡ nonzeroPairs (now (a .entry)) (now (b .entry)) ⌝ }
+{
+    let mut n = 0;
+    let mut i = 0;
+    while i < a.len() {
+        n += mark_either(a[i], b[i]);
+        i += 1;
+    }
+    n
+}
+
+// The number of non-zero digits of the scalar's row for the window m.
+fn row_weight(bytes: &[u8], m: u32) -> u32
+    requires { ⌜ (1 ≤ length (now bytes)) × ((length (now bytes) ≤ 66) × ((m % 2 ≡ 1) × (m ≤ 31))) ⌝ }
+    ensures { λ r. ⌜ r ≡ Row.weight (Rows.row m (pos (scalar (now (bytes .entry))))) ⌝ }
+{
+    let mut digits = [0u8; 529];
+    recode::row(bytes, m, &mut digits);
+    count(&digits)
+}
+
+// The number of non-zero columns of the joint form.
+pub fn joint_weight(k: &[u8], l: &[u8]) -> u32
+    requires { ⌜ (1 ≤ length (now k)) × ((length (now k) ≤ 66) × ((1 ≤ length (now l)) × (length (now l) ≤ 66))) ⌝ }
+    ensures { λ r. ⌜ r ≡ Column.weight two (joint (pos (scalar (now (k .entry)))) (pos (scalar (now (l .entry))))) ⌝ }
+{
+    let mut k_digits = [0u8; 529];
+    let mut l_digits = [0u8; 529];
+    recode::joint(k, l, &mut k_digits, &mut l_digits);
+    count_pairs(&k_digits, &l_digits)
+}
+
+// The weights of the scalar's rows, for the windows 1, 3, .. 31.
+pub fn row_weights(bytes: &[u8]) -> [u32; 16]
+    requires { ⌜ (1 ≤ length (now bytes)) × (length (now bytes) ≤ 66) ⌝ }
+    ensures { λ r. ⌜ r ≡ rowWeights (scalar (now (bytes .entry))) ⌝ }
+{
+    let mut weights = [0u32; 16];
+    let mut i = 0;
+    while i < 16 {
+        weights[i] = row_weight(bytes, 2 * (i as u32) + 1);
+        i += 1;
+    }
+    weights
+}
