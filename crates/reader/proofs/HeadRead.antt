@@ -1,5 +1,5 @@
 -- The scalars of a header stand in two fields of the first line. By going back through the reading of a line.
-use mathlib.Core.Path.{_≡_, refl, sym, ap, subst, _∙_}
+use mathlib.Core.Path.{_≡_, refl, sym, ap, _∙_}
 use mathlib.Core.Bool.{Bool, true, false, cond}
 use mathlib.Core.List.{List, [], _∷_}
 use mathlib.Core.Option.{Option, none, some}
@@ -9,10 +9,9 @@ use lib.Dec.{eqb}
 use lib.ListN.{length, getD}
 use Rattle.digits.specs.Limits.{card}
 use Rattle.sheet.specs.Plan.{Point}
-use Rattle.sheet.specs.Line.{Kind, Header, Line, header, table, load, double, add, end, misspelled}
+use Rattle.sheet.specs.Line.{Header, Line, header, table, load, double, add, end, misspelled}
 use Rattle.sheet.specs.Numeral.{number, followed}
 use Rattle.sheet.specs.Spelling.{lineFeed, comma, cut, letter, readKind, readDecimal, readScalar, readPoint, readHeader, _>>=_, made, sized, readBehind, readLine, readLines, lines}
-use Rattle.sheet.specs.Cut.{cut-some}
 use Rattle.sheet.specs.Field.{isNumeral}
 use Rattle.reader.specs.Scan.{headingOf, headField, ScalarIn}
 

@@ -1,9 +1,9 @@
 -- The questions in order, from what the two passes found.
-use mathlib.Core.Path.{_≡_, refl, sym, ap, ap₂, _∙_}
+use mathlib.Core.Path.{_≡_, sym, ap, ap₂, _∙_}
 use mathlib.Core.Logic.{_≢_}
-use mathlib.Core.Bool.{Bool, true, false, _&&_}
-use mathlib.Core.List.{List, [], _∷_}
-use mathlib.Core.Option.{Option, none, some}
+use mathlib.Core.Bool.{Bool, true, false}
+use mathlib.Core.List.{List}
+use mathlib.Core.Option.{none, some}
 use Prim.Native.Nat.{ℕ, _≤_, _<_}
 use lib.Dec.{eqb}
 use lib.IntN.{pos}
@@ -13,15 +13,13 @@ use Rattle.digits.specs.Limits.{card}
 use Rattle.sheet.specs.Plan.{point}
 use Rattle.sheet.specs.Line.{Header, Line, plan}
 use Rattle.sheet.specs.Spelling.{lines}
-use Rattle.sheet.specs.Answer.{accepted, refused, ask, heading, judged, answer}
-use Rattle.sheet.specs.Questions.{unless, tooLong, misplaced, offPlan, disallowed, excess, additions, doublings, miscounted, wrong, samePoint, result}
-use Rattle.reader.specs.Coded.{codedHeader}
+use Rattle.sheet.specs.Answer.{heading, judged, answer}
+use Rattle.sheet.specs.Questions.{tooLong, misplaced, offPlan, disallowed, excess, additions, doublings, miscounted, wrong, samePoint, result}
 use Rattle.reader.specs.State.{found}
 use Rattle.reader.specs.Scan.{Answered}
 use Rattle.reader.specs.Judgement.{judgement, lastQuestions}
 use Rattle.reader.specs.declared.line.Header as header-of
 use Rattle.reader.specs.declared.state.State.{State}
-use Rattle.reader.specs.declared.judge.Judgement.{Judgement}
 use Rattle.reader.specs.declared.judge.Judgement.the-variants.{Accepted, Refused}
 
 pub too-long : (s : List ℕ) → 16384 < length s → Refused 5 0 ≡ judgement (answer card s)

@@ -1,23 +1,22 @@
 -- Numbers in limbs: the turns of the multiplication and of the comparison of a sum, from the value of a list of limbs.
-use mathlib.Core.Path.{_≡_, refl, sym, ap, ap₂, subst, _∙_}
+use mathlib.Core.Path.{_≡_, refl, sym, ap, subst, _∙_}
 use mathlib.Core.Logic.{_≢_}
 use mathlib.Core.Bool.{Bool, true, false}
 use mathlib.Core.List.{List, [], _∷_, _++_, append-assoc, append-nil}
-use Prim.Native.Nat.{ℕ, zero, suc, _+_, _*_, _-_, _/_, _%_, _^_, _≤_, _<_}
-use native.Mathlib.Nat.{mul-le-mul, mod-lt, pow-le-pow-right, le-trans, lt-of-lt-of-le, lt-of-le-of-lt, mod-eq-of-lt}
+use Prim.Native.Nat.{ℕ, zero, suc, _+_, _*_, _/_, _%_, _^_, _≤_, _<_}
+use native.Mathlib.Nat.{mul-le-mul, pow-le-pow-right, le-trans, lt-of-lt-of-le, mod-eq-of-lt}
 use native.Mathlib.Numerals.{add-one}
 use native.Mathlib.Omega.{arith}
-use lib.Arith.{digits-div, digits-mod}
-use lib.Dec.{eqb, leb}
-use lib.ListN.{length, getD, take, drop, set, replicate, length-set, drop-of-length-le}
+use lib.Arith.{digits-mod}
+use lib.Dec.{eqb}
+use lib.ListN.{length, getD, take, drop, set, replicate, drop-of-length-le}
 use lib.Seq.{drop-cons, take-suc-set, drop-set-lt, take-all}
 use borrow.Author.Tests.{eq-eqb, ne-eqb, eqb-true, eqb-false, leb-true, ltb-true}
-use lib.Dec.{ltb}
 use lib.IntN.{pos}
 use Rattle.digits.specs.Integer.{up, down, negation}
 use Rattle.reader.specs.Accumulator.{room}
 use Rattle.reader.specs.Coded.{whole, wholeOf}
-use Rattle.reader.specs.Limbs.{limb, limbs, scale, value, mulAdd}
+use Rattle.reader.specs.Limbs.{limb, limbs, scale, value}
 use Rattle.reader.specs.declared.point.Signed.{Signed}
 use Rattle.sheet.proofs.FieldTurns.{power-turn}
 
@@ -26,6 +25,11 @@ pub product-most : (x m : ℕ) → x < limb → m < limb → x * m ≤ 184467440
 product-most x m p q = mul-le-mul {n₁ = x} {m₁ = m} {n₂ = 4294967295} {m₂ = 4294967295} (omega arith) (omega arith)
 
 -- ── m times a number, and c ─────────────────────────────────────────────────────────────────
+
+-- the limbs of m times the number, and c added; what is carried out of the top one is lost
+unfoldable pub mulAdd : ℕ → ℕ → List ℕ → List ℕ
+mulAdd m c [] = []
+mulAdd m c (x ∷ xs) = (m * x + c) % limb ∷ mulAdd m ((m * x + c) / limb) xs
 
 -- a limb and what is carried are the remainder and the quotient
 split-limb : (t l k : ℕ) → l + limb * k ≡ t → l < limb → (t % limb ≡ l) × (t / limb ≡ k)
@@ -62,7 +66,8 @@ mul-value m c xs =
 
 -- ── a sum ───────────────────────────────────────────────────────────────────────────────────
 
-same-test : (a b c d : ℕ) → (a ≡ b → c ≡ d) → (c ≡ d → a ≡ b) → eqb a b ≡ eqb c d
+-- two tests that hold together are the same
+pub same-test : (a b c d : ℕ) → (a ≡ b → c ≡ d) → (c ≡ d → a ≡ b) → eqb a b ≡ eqb c d
 same-test a b c d f g = go (eqb c d) refl
   where
     go : (t : Bool) → eqb c d ≡ t → eqb a b ≡ t

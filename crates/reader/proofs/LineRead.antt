@@ -4,43 +4,33 @@ use mathlib.Core.Logic.{_≢_}
 use mathlib.Core.Bool.{Bool, true, false, cond}
 use mathlib.Core.List.{List, [], _∷_, _++_}
 use mathlib.Core.Option.{Option, none, some}
-use Prim.Native.Nat.{ℕ, zero, suc, _+_, _-_, _≤_, _<_}
-use Prim.Native.Char.{code}
+use Prim.Native.Nat.{ℕ, zero, suc, _+_, _≤_, _<_}
 use native.Mathlib.Omega.{arith}
 use lib.Dec.{eqb}
-use lib.IntN.{ℤ, pos, negsuc}
+use lib.IntN.{ℤ}
 use lib.ListN.{length, getD, take, drop, length-drop}
 use lib.Seq.{drop-cons, split-at, drop-drop}
 use borrow.Author.Tests.{eq-eqb, ne-eqb}
 use Rattle.digits.specs.Limits.{card}
 use Rattle.sheet.specs.Plan.{Point, point}
-use Rattle.sheet.specs.Numeral.{number, followed}
+use Rattle.sheet.specs.Numeral.{number}
 use Rattle.sheet.specs.Line as spec
-use Rattle.sheet.specs.Line.{Kind, joint, interleaved, header, table, load, double, add, end, misspelled}
-use Rattle.sheet.specs.Spelling.{lineFeed, comma, cut, letter, readKind, readDecimal, readScalar, plain, negative, readDigit, readPoint, readHeader, made, sized, readBehind, readLine, lines}
+use Rattle.sheet.specs.Line.{joint, interleaved, header, table, load, double, add, end, misspelled}
+use Rattle.sheet.specs.Spelling.{lineFeed, comma, cut, letter, readKind, readDecimal, plain, negative, readDigit, readPoint, readHeader, made, sized, readBehind, readLine, lines}
 use Rattle.sheet.specs.Cut.{Lacks, lines-none, lines-more, lines-last}
 use Rattle.sheet.specs.Field.{First, isNumeral, decimalOf}
 use Rattle.reader.specs.Coded.{optionOf, signed, codedDigit, codedPoint, codedPair, kindOf, isJoint, codedHeader, codedHeading, coded, pointed, Took}
-use Rattle.sheet.specs.declared.figures.Decimal as decimal
 use Rattle.reader.specs.declared.point.Signed.{Signed}
 use Rattle.reader.specs.declared.point.Digit as digit
 use Rattle.reader.specs.declared.point.Pair as pair
 use Rattle.reader.specs.declared.line.Heading as heading
 use Rattle.reader.specs.declared.line.Header as header-of
 use Rattle.reader.specs.declared.line.Line.{Line}
-use Rattle.reader.specs.declared.line.Line.the-variants.{Head, Table, Load, Double, Add, End, Misspelled}
+use Rattle.reader.specs.declared.line.Line.the-variants.{Head, Table, Load, Add, Misspelled}
 use Rattle.sheet.proofs.FieldTurns.{numeral-value}
 use Rattle.sheet.proofs.CutTurns.{first-all}
 
 -- a decimal that was read
-pub decimal-some : (o : Option ℕ) (n : ℕ) → decimalOf o ≡ decimal.the-variants.Is n → o ≡ some n
-decimal-some none n e = let z : _≡_ {A = ℕ} 0 1 = cc in absurd (omega arith)
-decimal-some (some m) n e = cc
-
-pub decimal-none : (o : Option ℕ) → decimalOf o ≡ decimal.the-variants.None → o ≡ none
-decimal-none none e = refl
-decimal-none (some m) e = let z : _≡_ {A = ℕ} 0 1 = cc in absurd (omega arith)
-
 pub option-decimal : (o : Option ℕ) → optionOf (decimalOf o) ≡ o
 option-decimal none = refl
 option-decimal (some n) = refl

@@ -1,17 +1,16 @@
 -- The turns of the second pass: the accumulator holds the point that the lines so far come to, and its parts stay below the
 -- room, since at most 528 lines double it.
 use mathlib.Core.Path.{_≡_, refl, sym, ap, ap₂, subst, _∙_}
-use mathlib.Core.Bool.{Bool, true, false}
 use mathlib.Core.List.{List, [], _∷_}
-use mathlib.Core.Option.{Option, none, some}
+use mathlib.Core.Option.{none}
 use Prim.Native.Nat.{ℕ, zero, suc, _+_, _*_, _^_, _≤_, _<_}
 use native.Mathlib.Nat.{mul-le-mul, mul-le-mul-left, mul-le-mul-right, pow-suc, le-trans}
 use native.Mathlib.Omega.{arith}
 use lib.Dec.{eqb}
-use lib.IntN.{ℤ, pos, negsuc, _+ℤ_}
+use lib.IntN.{ℤ, pos, negsuc}
 use lib.ListN.{length, drop, drop-of-length-le}
 use lib.Pow.{pow-pos, pow-mono}
-use borrow.Author.Tests.{leb-true, eq-eqb, ne-eqb, eqb-true, eqb-false}
+use borrow.Author.Tests.{leb-true, ne-eqb}
 use Rattle.digits.specs.Integer.{up, down, sum}
 use Rattle.digits.specs.Limits.{card}
 use Rattle.sheet.specs.Plan.{Point, point}
@@ -20,7 +19,8 @@ use Rattle.sheet.specs.Spelling.{lines}
 use Rattle.sheet.specs.Cut.{lines-none}
 use Rattle.sheet.specs.Questions.{sameNumber, plus, held, result, excessFrom, excess}
 use Rattle.reader.specs.Limbs.{limb, value}
-use Rattle.reader.specs.Accumulator.{Parts, room, Roomy, Is, Holds, Plus, Loaded, Doubled, Added, Moved}
+use Rattle.reader.proofs.LimbTurns.{same-test}
+use Rattle.reader.specs.Accumulator.{Parts, room, Roomy, Is, Holds, Loaded, Doubled, Added, Moved}
 use Rattle.reader.specs.Coded.{signed, whole, codedPoint, pointOf}
 use Rattle.reader.specs.declared.accumulator.Number.{Number}
 use Rattle.reader.specs.declared.accumulator.Accumulator.{Accumulator}
@@ -73,13 +73,6 @@ whole-signed (negsuc n) = refl
 
 pub point-back : (t : Rattle.reader.specs.declared.point.Point.Point) (y : Point) → t ≡ codedPoint y → pointOf t ≡ y
 point-back t y e = ap pointOf e ∙ ap₂ point (whole-signed (y .p)) (whole-signed (y .q))
-
-same-test : (a b c d : ℕ) → (a ≡ b → c ≡ d) → (c ≡ d → a ≡ b) → eqb a b ≡ eqb c d
-same-test a b c d f g = go (eqb c d) refl
-  where
-    go : (t : Bool) → eqb c d ≡ t → eqb a b ≡ t
-    go true e = eq-eqb a b (g (eqb-true c d e))
-    go false e = ne-eqb a b (λ h. eqb-false c d e (f h))
 
 -- the number is k exactly if its parts differ by k
 pub is-number : (n : Number) (z : ℤ) (k : ℕ) → Is n z → eqb (k + value (n .minus)) (value (n .plus)) ≡ sameNumber z (pos k)

@@ -2,19 +2,18 @@
 use mathlib.Core.Path.{_≡_, refl, sym, ap, subst, _∙_}
 use mathlib.Core.List.{List, [], _∷_}
 use mathlib.Core.Option.{Option, none, some}
-use Prim.Native.Nat.{ℕ, zero, suc, _+_, _≤_, _<_}
+use Prim.Native.Nat.{ℕ, _+_, _≤_}
 use native.Mathlib.Omega.{arith}
 use Rattle.digits.specs.Limits.{card}
 use Rattle.sheet.specs.Line.{Header, Line, plan, header, table, load, double, add, end, misspelled}
 use Rattle.sheet.specs.Questions.{disallowedFrom, excessFrom, additions, doublings, misplaced, offPlan, disallowed, excess, afterHeader, afterLoad}
 use Rattle.reader.specs.Coded.{codedHeader, codedHeading}
 use Rattle.reader.specs.State.{found, earlier, misplacedFrom, offPlanFrom, disallowedIn, excessIn, Counted, Follows, Behind, placedIn, differsIn}
-use Rattle.reader.specs.Scan.{Reached, Scanned, Answered, Surveyed, headingOf}
+use Rattle.reader.specs.Scan.{Reached, Scanned, Answered, headingOf}
 use Rattle.reader.specs.declared.state.State.{State}
 use Rattle.reader.specs.declared.state.Phase.{Phase}
 use Rattle.reader.specs.declared.state.Phase.the-variants.{Tables, Steps, Ended}
 use Rattle.reader.specs.declared.scan.Scan as scan
-use Rattle.reader.specs.declared.scan.Survey as survey
 use Rattle.reader.specs.declared.line.Header as header-of
 use Rattle.reader.specs.declared.line.Heading as heading
 use Rattle.reader.proofs.Taken.{earlier-none}

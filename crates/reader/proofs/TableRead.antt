@@ -1,20 +1,19 @@
 -- The plan's own T lines by their place, and the tests of a point. From the definitions of Plan and Questions.
-use mathlib.Core.Path.{_≡_, refl, sym, ap, ap₂, subst, _∙_}
+use mathlib.Core.Path.{_≡_, refl, sym, ap, ap₂, _∙_}
 use mathlib.Core.Logic.{_≢_}
-use mathlib.Core.Bool.{Bool, true, false, not, _&&_, _||_, cond}
+use mathlib.Core.Bool.{Bool, true, false, _&&_}
 use mathlib.Core.List.{List, [], _∷_, _++_, map}
-use mathlib.Core.Option.{Option, none, some}
-use Prim.Native.Nat.{ℕ, zero, suc, _+_, _*_, _-_, _/_, _%_, _≤_, _<_}
+use Prim.Native.Nat.{ℕ, zero, suc, _+_, _*_, _-_, _/_, _≤_, _<_}
 use native.Mathlib.Omega.{arith}
-use lib.Dec.{eqb, leb, ltb}
+use lib.Dec.{eqb}
 use lib.IntN.{ℤ, pos, negsuc, natAbs}
 use lib.ListN.{length, getD, drop, length-append, List·getD-append, List·getD-map, drop-of-length-le}
 use lib.Seq.{drop-cons, getD-append-add}
-use borrow.Author.Tests.{eq-eqb, ne-eqb, lt-leb, le-leb, eqb-true}
+use borrow.Author.Tests.{eq-eqb, ne-eqb, eqb-true}
 use Rattle.digits.specs.Two.{isZero}
 use Rattle.sheet.specs.declared.Plan.the-variants.{J, I}
 use Rattle.sheet.specs.Plan.{Point, point, stored, odds, multiples, tables}
-use Rattle.sheet.specs.Questions.{sameNumber, samePoint, isDouble, turn}
+use Rattle.sheet.specs.Questions.{sameNumber, samePoint, turn}
 use Rattle.reader.specs.Coded.{signed, codedPoint}
 use Rattle.reader.specs.State.{isNext, multipleAt, isOdd, jointTurn, windowTurn}
 use Rattle.reader.specs.declared.point.Signed.{Signed}
@@ -107,12 +106,6 @@ multiples-some m h = go (stored m) refl
 
 -- ── the T lines of plan I ───────────────────────────────────────────────────────────────────
 
-ofP : ℕ → Point
-ofP n = point (pos n) (pos 0)
-
-ofQ : ℕ → Point
-ofQ n = point (pos 0) (pos n)
-
 module _ (m1 m2 n : ℕ) (x : Point) where
   abbrev A : List Point
   A = map (λ i. point (pos i) (pos 0)) (multiples (stored m1))
@@ -178,10 +171,6 @@ joint-turns x = rw (zero-size (x .p), zero-size (x .q))
 
 pub window-turns : (m1 m2 : ℕ) (x : Point) → windowTurn m1 m2 (natAbs (x .p)) (natAbs (x .q)) ≡ turn (I m1 m2) x
 window-turns m1 m2 x = rw (zero-size (x .p), zero-size (x .q))
-
--- where a digit is 0 it is not odd
-pub odd-zero : (m : ℕ) → isOdd m 0 ≡ false
-odd-zero m = refl
 
 false-and : (b : Bool) → (b && false) ≡ false
 false-and true = refl

@@ -2,15 +2,15 @@
 use mathlib.Core.Path.{_≡_, refl, sym, ap, subst, _∙_}
 use mathlib.Core.List.{List, [], _∷_, _++_, append-assoc, append-nil}
 use mathlib.Core.Bool.{Bool, true, false}
-use Prim.Native.Nat.{ℕ, zero, suc, _+_, _*_, _-_, _/_, _%_, _^_, _≤_, _<_}
+use Prim.Native.Nat.{ℕ, zero, suc, _+_, _/_, _%_, _^_, _≤_, _<_}
 use native.Mathlib.Nat.{pow-suc}
 use native.Mathlib.Omega.{arith}
 use lib.Dec.{ltb}
-use lib.ListN.{length, drop, set, length-set, length-append}
+use lib.ListN.{length, drop, set}
 use lib.Seq.{set-split, drop-at, length-take-le}
 use borrow.Author.Tests.{lt-ltb, le-ltb, ltb-true, ltb-false}
-use Rattle.sheet.specs.Numeral.{figure, numeralIn, numeral}
-use Rattle.reader.specs.Text.{bytesOf, Before}
+use Rattle.sheet.specs.Numeral.{numeralIn, numeral}
+use Rattle.reader.specs.Text.{Before}
 use Rattle.reader.specs.declared.text.Text.{Text}
 
 -- ── numerals ────────────────────────────────────────────────────────────────────────────────

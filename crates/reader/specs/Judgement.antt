@@ -1,6 +1,5 @@
 -- What the reader answers, as 01 has it: for each case of the code's answer the number of the question and the line.
 use mathlib.Core.List.{List}
-use Prim.Native.Nat.{ℕ}
 use Rattle.sheet.specs.Answer.{Answer, accepted, refused, ask, heading}
 use Rattle.sheet.specs.Line.{Line}
 use Rattle.sheet.specs.Questions.{miscounted, wrong}

@@ -1,6 +1,6 @@
 -- Natural numbers in limbs of 32 bits, the least significant first.
 use mathlib.Core.List.{List, [], _∷_}
-use Prim.Native.Nat.{ℕ, zero, suc, _+_, _*_, _/_, _%_}
+use Prim.Native.Nat.{ℕ, zero, suc, _+_, _*_}
 
 -- a limb is below this
 abbrev pub limb : ℕ
@@ -19,8 +19,3 @@ scale (suc n) = limb * scale n
 unfoldable pub value : List ℕ → ℕ
 value [] = 0
 value (x ∷ xs) = x + limb * value xs
-
--- the limbs of m times the number, and c added; what is carried out of the top one is lost
-unfoldable pub mulAdd : ℕ → ℕ → List ℕ → List ℕ
-mulAdd m c [] = []
-mulAdd m c (x ∷ xs) = (m * x + c) % limb ∷ mulAdd m ((m * x + c) / limb) xs

@@ -1,16 +1,16 @@
 -- What the reader's state says to each question of the lines that follow: a fault already found comes first.
 use mathlib.Core.Path.{_≡_}
-use mathlib.Core.Bool.{Bool, true, false, not, _&&_, cond}
+use mathlib.Core.Bool.{Bool, false, not, _&&_, cond}
 use mathlib.Core.List.{List, [], _∷_}
 use mathlib.Core.Option.{Option, none, some}
-use Prim.Native.Nat.{ℕ, zero, suc, _+_, _*_, _%_, _≤_, _<_}
-use lib.Dec.{eqb, leb, ltb}
-use lib.ListN.{length, drop}
+use Prim.Native.Nat.{ℕ, zero, suc, _+_, _*_, _%_, _≤_}
+use lib.Dec.{eqb, leb}
+use lib.ListN.{drop}
 use Rattle.digits.specs.Limits.{card}
 use Rattle.sheet.specs.declared.Plan.{Plan}
 use Rattle.sheet.specs.Plan.{Point, slots, tables}
 use Rattle.sheet.specs.Line as spec
-use Rattle.sheet.specs.Line.{planOf, header, table, load, double, add, end, misspelled}
+use Rattle.sheet.specs.Line.{planOf, header, load, double, add}
 use Rattle.sheet.specs.Questions.{windowed, samePoint, tableLines, differs, turn, disallowedFrom, excessFrom, additions, doublings, afterHeader, afterLoad, afterEnd, misplaced, offPlan, disallowed, excess}
 use Rattle.reader.specs.Coded.{kindOf, codedPoint, codedHeader, coded}
 use Rattle.reader.specs.declared.fault.Fault.{Fault}

@@ -1,11 +1,10 @@
 -- The line that the reader program prints.
 use mathlib.Core.Path.{_≡_}
-use mathlib.Core.List.{List, [], _∷_, _++_}
+use mathlib.Core.List.{List, _∷_, _++_}
 use Prim.Native.Nat.{ℕ, _+_, _≤_}
-use Prim.Native.Char.{code}
 use lib.ListN.{length, drop}
 use Rattle.sheet.specs.Ascii.{ascii}
-use Rattle.sheet.specs.Spelling.{decimal, comma, lineFeed}
+use Rattle.sheet.specs.Spelling.{decimal, comma}
 use Rattle.sheet.specs.Answer.{Answer}
 use Rattle.reader.specs.Judgement.{judgement}
 use Rattle.reader.specs.declared.judge.Judgement.{Judgement}

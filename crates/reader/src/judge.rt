@@ -24,7 +24,7 @@ pub enum Judgement {
 
 // Questions 10 and 11: are both counts true, and is the result (k, l)?
 fn counts_and_result(sheet: &[u8], header: Header, state: State) -> Judgement
-    requires { ⌜ (length (now sheet) ≤ 16384) × (Answered (lines card (now sheet)) header state × (found (state .doubles .fault) ≡ none)) ⌝ }
+    requires { ⌜ (length (now sheet) ≤ card .sheet) × (Answered (lines card (now sheet)) header state × (found (state .doubles .fault) ≡ none)) ⌝ }
     ensures { λ r. ⌜ r ≡ judgement (lastQuestions (lines card (now (sheet .entry)))) ⌝ }
 {
     let additions = header.additions as usize;
@@ -45,7 +45,7 @@ fn counts_and_result(sheet: &[u8], header: Header, state: State) -> Judgement
 
 // Questions 7 to 11, of a sheet whose lines are all in place.
 fn questions(sheet: &[u8], header: Header, state: State) -> Judgement
-    requires { ⌜ (length (now sheet) ≤ 16384) × Answered (lines card (now sheet)) header state ⌝ }
+    requires { ⌜ (length (now sheet) ≤ card .sheet) × Answered (lines card (now sheet)) header state ⌝ }
     ensures { λ r. ⌜ r ≡ judgement (judged card (heading (lines card (now (sheet .entry)))) (lines card (now (sheet .entry)))) ⌝ }
 {
     let tables = state.tables;

@@ -1,23 +1,17 @@
 ghost use mathlib.Core.Path.{_≡_};
 ghost use mathlib.Core.Option.{some};
 ghost use mathlib.Core.List.{[]};
-ghost use Prim.Native.Nat.{_<_, _≤_};
+ghost use Prim.Native.Nat.{_<_};
 ghost use lib.ListN.{length, getD};
 ghost use Rattle.digits.specs.Limits.{card};
 ghost use Rattle.sheet.specs.Line.{header};
-ghost use Rattle.sheet.specs.Spelling.{comma, cut, sized, made, readDecimal, readKind, readHeader, readPoint, readLine};
-ghost use Rattle.sheet.specs.Field.{isNumeral, decimalOf};
+ghost use Rattle.sheet.specs.Spelling.{comma, cut, sized, made, readKind, readHeader, readPoint, readLine};
 ghost use Rattle.reader.specs.Coded.{kindOf, codedHeading, coded, pointed, Took};
 use crate::point::Pair;
 use crate::point::Point;
 use sheet::figures::Decimal;
 
 pub const LINE_FEED: u8 = b'\n';
-
-// The figures of a decimal in the header, and those of a scalar.
-const DECIMAL_FIGURES: usize = 4;
-
-const SCALAR_FIGURES: usize = 132;
 
 // S,kind,m1,m2,slots,additions,doublings,k,l without k and l, which stay on the sheet.
 pub struct Header {
@@ -52,47 +46,33 @@ pub struct Taken {
     pub next: usize,
 }
 
-// The decimal of a field of the header.
-fn decimal_at(s: &[u8], k: usize) -> Decimal
-    ensures { λ r. ⌜ r ≡ decimalOf (readDecimal (getD (cut comma (now (s .entry))) k [])) ⌝ }
-{
-    sheet::figures::decimal_of(sheet::fields::field(s, k), DECIMAL_FIGURES)
-}
-
-// Whether a field of the header is a scalar.
-fn is_scalar_at(s: &[u8], k: usize) -> bool
-    ensures { λ r. ⌜ r ≡ isNumeral 16 (card .figures) (getD (cut comma (now (s .entry))) k []) ⌝ }
-{
-    sheet::figures::is_numeral(sheet::fields::field(s, k), 16, SCALAR_FIGURES)
-}
-
 // The header of the fields behind its kind.
 fn header_of(s: &[u8], joint: bool) -> Heading
     requires { ⌜ readKind (getD (cut comma (now s)) 1 []) ≡ some (kindOf joint) ⌝ }
     ensures { λ r. ⌜ r ≡ codedHeading (readHeader card (cut comma (now (s .entry)))) ⌝ }
 {
-    let first = decimal_at(s, 2);
+    let first = sheet::fields::decimal_at(s, 2);
     let Decimal::Is(m1) = first else {
         return Heading::None;
     };
-    let second = decimal_at(s, 3);
+    let second = sheet::fields::decimal_at(s, 3);
     let Decimal::Is(m2) = second else {
         return Heading::None;
     };
-    let third = decimal_at(s, 4);
+    let third = sheet::fields::decimal_at(s, 4);
     let Decimal::Is(slots) = third else {
         return Heading::None;
     };
-    let fourth = decimal_at(s, 5);
+    let fourth = sheet::fields::decimal_at(s, 5);
     let Decimal::Is(additions) = fourth else {
         return Heading::None;
     };
-    let fifth = decimal_at(s, 6);
+    let fifth = sheet::fields::decimal_at(s, 6);
     let Decimal::Is(doublings) = fifth else {
         return Heading::None;
     };
-    if is_scalar_at(s, 7) {
-        if is_scalar_at(s, 8) {
+    if sheet::fields::is_scalar_at(s, 7) {
+        if sheet::fields::is_scalar_at(s, 8) {
             return Heading::Is(Header {
                 joint: joint,
                 m1: m1,

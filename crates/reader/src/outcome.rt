@@ -17,7 +17,7 @@ use crate::accumulator::Accumulator;
 
 // What the accumulator holds at the end of the sheet.
 fn result_of(sheet: &[u8]) -> Accumulator
-    requires { ⌜ (length (now sheet) ≤ 16384) × (excess card (lines card (now sheet)) ≡ none) ⌝ }
+    requires { ⌜ (length (now sheet) ≤ card .sheet) × (excess card (lines card (now sheet)) ≡ none) ⌝ }
     ensures { λ r. ⌜ Holds r (result (lines card (now (sheet .entry)))) ⌝ }
 {
     let mut accumulator = Accumulator::empty();
@@ -44,7 +44,7 @@ fn scalar_at(sheet: &[u8], k: usize) -> [u32; 18]
 
 // Whether the result is kP + lQ.
 pub fn is_right(sheet: &[u8]) -> bool
-    requires { ⌜ (length (now sheet) ≤ 16384) × (excess card (lines card (now sheet)) ≡ none) ⌝ }
+    requires { ⌜ (length (now sheet) ≤ card .sheet) × (excess card (lines card (now sheet)) ≡ none) ⌝ }
     requires { ⌜ Heads (lines card (now sheet)) ⌝ }
     ensures { λ r. ⌜ ((h : Header) → (ls : List Line) → lines card (now (sheet .entry)) ≡ header h ∷ ls
         → r ≡ samePoint (result (lines card (now (sheet .entry)))) (point (pos (h .k)) (pos (h .l)))) ⌝ }

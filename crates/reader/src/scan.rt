@@ -41,7 +41,7 @@ fn finished(state: State) -> Scan
 
 // The lines from a place on.
 fn scan_from(sheet: &[u8], from: usize, start: State) -> Scan
-    requires { ⌜ (length (now sheet) ≤ 16384) × ((from ≤ length (now sheet)) × (Counted start × (start .line ≤ from + 1))) ⌝ }
+    requires { ⌜ (length (now sheet) ≤ card .sheet) × ((from ≤ length (now sheet)) × (Counted start × (start .line ≤ from + 1))) ⌝ }
     ensures { λ r. ⌜ Scanned start (lines card (drop from (now (sheet .entry)))) r ⌝ }
 {
     let mut at = from;
@@ -77,7 +77,7 @@ fn heading_in(line: Line) -> Heading
 
 // The whole sheet.
 pub fn surveyed(sheet: &[u8]) -> Survey
-    requires { ⌜ length (now sheet) ≤ 16384 ⌝ }
+    requires { ⌜ length (now sheet) ≤ card .sheet ⌝ }
     ensures { λ r. ⌜ Surveyed (lines card (now (sheet .entry))) r ⌝ }
 {
     if sheet.len() == 0 {

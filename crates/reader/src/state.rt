@@ -1,12 +1,9 @@
 ghost use mathlib.Core.Path.{_≡_};
-ghost use mathlib.Core.Bool.{_&&_};
-ghost use Prim.Native.Nat.{ℕ, _<_};
-ghost use lib.Dec.{eqb};
 ghost use Rattle.sheet.specs.Line as meant;
 ghost use Rattle.sheet.specs.Plan as plans;
 ghost use Rattle.sheet.specs.Plan.{slots};
 ghost use Rattle.sheet.specs.Questions.{windowed};
-ghost use Rattle.reader.specs.Coded.{kindOf, pointOf, codedHeader, codedPoint, coded};
+ghost use Rattle.reader.specs.Coded.{kindOf, codedPoint};
 ghost use Rattle.reader.specs.State.{planFor, isOnPlan, Counted, Begins, Follows, Stepped};
 use crate::fault::Fault;
 use crate::line::Header;

@@ -1,7 +1,4 @@
 ghost use mathlib.Core.Path.{_≡_};
-ghost use mathlib.Core.Bool.{cond};
-ghost use mathlib.Core.List.{List};
-ghost use Prim.Native.Nat.{ℕ, suc, _≤_};
 ghost use Rattle.sheet.specs.Plan as plans;
 ghost use Rattle.sheet.specs.Questions.{turn};
 ghost use Rattle.reader.specs.Coded.{codedPoint};

@@ -1,11 +1,10 @@
 ghost use mathlib.Core.Path.{_≡_};
-ghost use mathlib.Core.List.{[], List, _∷_};
-ghost use Prim.Native.Nat.{ℕ, suc, _+_, _<_, _≤_};
+ghost use Prim.Native.Nat.{_+_, _<_, _≤_};
 ghost use lib.IntN.{ℤ, pos, negsuc};
 ghost use lib.ListN.{length, drop};
 ghost use Rattle.sheet.specs.Plan as plans;
 ghost use Rattle.sheet.specs.Plan.{stored, multiples, tables};
-ghost use Rattle.sheet.specs.Questions.{sameNumber, samePoint, isDouble, differs};
+ghost use Rattle.sheet.specs.Questions.{sameNumber, samePoint, isDouble};
 ghost use Rattle.reader.specs.Coded.{signed, codedPoint};
 ghost use Rattle.reader.specs.State.{isNext, multipleAt, TableTaken, TablesClosed};
 use crate::fault::Fault;

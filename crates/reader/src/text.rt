@@ -1,7 +1,7 @@
 ghost use mathlib.Core.Path.{_≡_};
 ghost use mathlib.Core.List.{[], _∷_};
 ghost use Prim.Native.Nat.{_+_, _≤_};
-ghost use lib.ListN.{length, drop};
+ghost use lib.ListN.{length};
 ghost use Rattle.digits.specs.Limits.{card};
 ghost use Rattle.sheet.specs.Numeral.{numeral};
 ghost use Rattle.sheet.specs.Answer.{answer};

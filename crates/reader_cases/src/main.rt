@@ -1,5 +1,4 @@
 // The reader on sheets good and bad: a line for each, its name and the answer.
-ghost use mathlib.Core.Path.{_≡_};
 ghost use Prim.Native.Nat.{_≤_};
 ghost use lib.ListN.{length};
 

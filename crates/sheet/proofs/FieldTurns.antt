@@ -83,3 +83,12 @@ module _ (base most : ℕ) (s : List ℕ) where
       let (ab, c) = and-eq-true-iff (leb 1 (length s) && leb (length s) most) (not (padded s)) .0 abc in
       let (a, b) = and-eq-true-iff (leb 1 (length s)) (leb (length s) most) .0 ab in
       (borrow.Author.Tests.leb-true (length s) most b, d)
+
+-- a decimal that was read, and none
+pub decimal-some : (o : Option ℕ) (n : ℕ) → decimalOf o ≡ Is n → o ≡ some n
+decimal-some none n e = let z : _≡_ {A = ℕ} 0 1 = cc in absurd (omega arith)
+decimal-some (some m) n e = cc
+
+pub decimal-none : (o : Option ℕ) → decimalOf o ≡ None → o ≡ none
+decimal-none none e = refl
+decimal-none (some m) e = let z : _≡_ {A = ℕ} 0 1 = cc in absurd (omega arith)

@@ -2,10 +2,17 @@ ghost use mathlib.Core.Path.{_≡_};
 ghost use mathlib.Core.List.{[]};
 ghost use Prim.Native.Nat.{ℕ, suc, _≤_, _<_};
 ghost use lib.ListN.{length, getD, take, drop};
-ghost use Rattle.sheet.specs.Spelling.{comma, cut, letter};
-ghost use Rattle.sheet.specs.Field.{First, Behind};
+ghost use Rattle.digits.specs.Limits.{card};
+ghost use Rattle.sheet.specs.Spelling.{comma, cut, letter, readDecimal};
+ghost use Rattle.sheet.specs.Field.{First, Behind, isNumeral, decimalOf};
+use crate::figures::Decimal;
 
 const COMMA: u8 = b',';
+
+// The figures of a decimal, and those of a scalar.
+const DECIMAL_FIGURES: usize = 4;
+
+const SCALAR_FIGURES: usize = 132;
 
 // The index of the first b in s, or the length where there is none.
 pub fn find(s: &[u8], b: u8) -> usize
@@ -73,4 +80,18 @@ pub fn letter_of(field: &[u8]) -> u8
         return field[0];
     }
     0
+}
+
+// The decimal of the field at k.
+pub fn decimal_at(s: &[u8], k: usize) -> Decimal
+    ensures { λ r. ⌜ r ≡ decimalOf (readDecimal (getD (cut comma (now (s .entry))) k [])) ⌝ }
+{
+    crate::figures::decimal_of(field(s, k), DECIMAL_FIGURES)
+}
+
+// Whether the field at k is a scalar.
+pub fn is_scalar_at(s: &[u8], k: usize) -> bool
+    ensures { λ r. ⌜ r ≡ isNumeral 16 (card .figures) (getD (cut comma (now (s .entry))) k []) ⌝ }
+{
+    crate::figures::is_numeral(field(s, k), 16, SCALAR_FIGURES)
 }

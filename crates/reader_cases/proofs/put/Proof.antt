@@ -1,7 +1,7 @@
 -- `put` meets its contract. The loop's invariant: the place is within the buffer, whose length stays.
 use native.Mathlib.Omega.{arith}
 use borrow.Author.Needs.{needs}
-use mathlib.Core.Path.{_≡_, _∙_}
+use mathlib.Core.Path.{_≡_}
 use Prim.Native.Nat.{_≤_, _-_}
 use lib.ListN.{length, length-set}
 use Rattle.reader_cases.proofs.put.Statement.{statement}

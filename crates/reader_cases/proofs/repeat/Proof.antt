@@ -1,6 +1,6 @@
 -- `repeat` meets its contract. The loop's invariant: the place is within the buffer, whose length stays.
 use borrow.Author.Needs.{needs}
-use mathlib.Core.Path.{_≡_, _∙_}
+use mathlib.Core.Path.{_≡_}
 use Prim.Native.Nat.{_≤_}
 use lib.ListN.{length}
 use Rattle.reader_cases.proofs.repeat.Statement.{statement}

@@ -1,5 +1,5 @@
 -- `counts_and_result` meets its contract: each return is one line of Judged.
-use mathlib.Core.Path.{_≡_, sym, _∙_}
+use mathlib.Core.Path.{_∙_}
 use Rattle.reader.proofs.Judged.{answer-additions, answer-doublings, answer-right, answer-wrong}
 use borrow.Author.Needs.{needs}
 use Rattle.reader.proofs.judge.counts_and_result.Statement.{statement}

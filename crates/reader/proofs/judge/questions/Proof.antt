@@ -1,5 +1,5 @@
 -- `questions` meets its contract: each return is one line of Judged.
-use mathlib.Core.Path.{_≡_, ap, _∙_}
+use mathlib.Core.Path.{ap, _∙_}
 use Rattle.reader.specs.State.{found}
 use Rattle.reader.proofs.Judged.{answer-7, answer-8, answer-9, answer-last}
 use borrow.Author.Needs.{needs}

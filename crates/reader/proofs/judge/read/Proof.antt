@@ -1,5 +1,5 @@
 -- `read` meets its contract: each return is one line of Judged.
-use mathlib.Core.Path.{_≡_, subst, _∙_}
+use mathlib.Core.Path.{subst, _∙_}
 use Rattle.digits.specs.Limits.{card}
 use Rattle.sheet.specs.Spelling.{lines}
 use Rattle.reader.specs.Scan.{Surveyed}

@@ -1,12 +1,12 @@
 -- `mul_add` meets its contract. The loop's invariant: the limbs done, with what the others become, are the whole product.
 use native.Mathlib.Omega.{arith}
 use borrow.Author.Needs.{needs}
-use mathlib.Core.Path.{_≡_, refl, sym, ap, subst, _∙_}
-use mathlib.Core.List.{List, _++_}
+use mathlib.Core.Path.{_≡_, refl, sym, ap, _∙_}
+use mathlib.Core.List.{_++_}
 use Prim.Native.Nat.{ℕ, _+_, _*_, _%_, _≤_, _<_, _-_}
-use lib.ListN.{length, take, drop, set, length-set}
-use Rattle.reader.specs.Limbs.{limbs, scale, value, mulAdd}
-use Rattle.reader.proofs.LimbTurns.{mul-turn, mul-end, mul-value}
+use lib.ListN.{length, take, drop, length-set}
+use Rattle.reader.specs.Limbs.{scale, value}
+use Rattle.reader.proofs.LimbTurns.{mulAdd, mul-turn, mul-end, mul-value}
 use Rattle.reader.proofs.limbs.mul_add.Statement.{statement}
 use Rattle.reader.proofs.limbs.mul_add.Tie as tie
 

@@ -1,12 +1,12 @@
 -- `scalar_of` meets its contract. The loop's invariant: the number so far, with the figures from i on behind it, is the whole number.
 use native.Mathlib.Omega.{arith}
 use borrow.Author.Needs.{needs}
-use mathlib.Core.Path.{_≡_, refl, sym, ap, subst, _∙_}
+use mathlib.Core.Path.{_≡_, sym, ap, subst, _∙_}
 use mathlib.Core.Bool.{true}
-use Prim.Native.Nat.{ℕ, _+_, _*_, _%_, _≤_, _<_, _-_, _^_}
-use lib.ListN.{length, getD, drop}
-use Rattle.sheet.specs.Numeral.{worth, figures, followed}
-use Rattle.reader.specs.Limbs.{limbs, scale, value}
+use Prim.Native.Nat.{ℕ, _+_, _*_, _≤_, _<_, _-_, _^_}
+use lib.ListN.{length, drop}
+use Rattle.sheet.specs.Numeral.{figures, followed}
+use Rattle.reader.specs.Limbs.{value}
 use Rattle.sheet.proofs.FieldTurns.{figure-at, followed-turn, followed-end, power-turn}
 use Rattle.reader.proofs.LimbTurns.{figure-turn, zero-value}
 use Rattle.reader.proofs.limbs.scalar_of.Statement.{statement}

@@ -1,6 +1,5 @@
 -- `head_line` meets its contract, by the number of fields and the heading that was read.
-use mathlib.Core.Path.{_≡_, sym, ap, _∙_}
-use mathlib.Core.List.{List}
+use mathlib.Core.Path.{sym, ap, _∙_}
 use Rattle.digits.specs.Limits.{card}
 use Rattle.sheet.specs.Line.{header}
 use Rattle.sheet.specs.Spelling.{comma, cut, made, readHeader}

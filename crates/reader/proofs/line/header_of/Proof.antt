@@ -1,9 +1,8 @@
 -- `header_of` meets its contract: each return is one line of LineRead.
-use mathlib.Core.Path.{_≡_, sym, _∙_}
-use mathlib.Core.List.{List}
-use Prim.Native.Nat.{ℕ}
+use mathlib.Core.Path.{sym, _∙_}
 use Rattle.sheet.specs.Spelling.{comma, cut}
-use Rattle.reader.proofs.LineRead.{decimal-some, decimal-none, header-2, header-3, header-4, header-5, header-6, header-7, header-8, header-all}
+use Rattle.sheet.proofs.FieldTurns.{decimal-some, decimal-none}
+use Rattle.reader.proofs.LineRead.{header-2, header-3, header-4, header-5, header-6, header-7, header-8, header-all}
 use borrow.Author.Needs.{needs}
 use Rattle.reader.proofs.line.header_of.Statement.{statement}
 use Rattle.reader.proofs.line.header_of.Tie as tie

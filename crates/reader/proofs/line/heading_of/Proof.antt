@@ -1,7 +1,5 @@
 -- `heading_of` meets its contract, by the letter of the kind.
-use mathlib.Core.Path.{_≡_, sym, ap, _∙_}
-use mathlib.Core.List.{List}
-use Prim.Native.Nat.{ℕ}
+use mathlib.Core.Path.{sym, ap, _∙_}
 use mathlib.Core.List.{[]}
 use lib.ListN.{getD}
 use Rattle.sheet.specs.Spelling.{comma, cut, letter}

@@ -1,9 +1,9 @@
 -- `line_at` meets its contract: the line ends at the first line feed.
 use native.Mathlib.Omega.{arith}
-use mathlib.Core.Path.{_≡_, sym, ap, subst, _∙_}
+use mathlib.Core.Path.{sym, ap, subst, _∙_}
 use mathlib.Core.List.{List}
-use Prim.Native.Nat.{ℕ, _+_, _≤_, _<_}
-use lib.ListN.{length, drop, take, length-drop}
+use Prim.Native.Nat.{ℕ}
+use lib.ListN.{drop, take, length-drop}
 use lib.Seq.{length-take-le}
 use Rattle.digits.specs.Limits.{card}
 use Rattle.sheet.specs.Spelling.{lineFeed, readLine}

@@ -1,5 +1,5 @@
 -- `line_of` meets its contract: each letter is one line of LineRead.
-use mathlib.Core.Path.{_≡_, sym, ap, _∙_}
+use mathlib.Core.Path.{sym, ap, _∙_}
 use Rattle.sheet.specs.Line.{double, end}
 use Rattle.sheet.specs.Spelling.{comma, cut, letter}
 use Rattle.reader.specs.Coded.{coded}

@@ -1,5 +1,5 @@
 -- `step_line` meets its contract, by the letter and the point that was read.
-use mathlib.Core.Path.{_≡_, sym, ap, _∙_}
+use mathlib.Core.Path.{sym, _∙_}
 use Rattle.sheet.specs.Spelling.{comma, cut, readPoint}
 use Rattle.reader.proofs.LineRead.{pair-none, pair-some, step-none, step-table, step-load, step-add, step-other}
 use borrow.Author.Needs.{needs}

@@ -1,11 +1,10 @@
 -- `is_right` meets its contract: each number against its scalar.
-use mathlib.Core.Path.{_≡_, sym, ap, ap₂, _∙_}
+use mathlib.Core.Path.{sym, ap, ap₂, _∙_}
 use mathlib.Core.Bool.{Bool, _&&_}
 use Prim.Native.Nat.{ℕ, _+_}
 use lib.Dec.{eqb}
 use lib.IntN.{pos}
 use Rattle.digits.specs.Limits.{card}
-use Rattle.sheet.specs.Line.{Header}
 use Rattle.sheet.specs.Spelling.{lines}
 use Rattle.sheet.specs.Questions.{sameNumber, result}
 use Rattle.reader.specs.Limbs.{value}

@@ -1,7 +1,6 @@
 -- `result_of` meets its contract. The loop's invariant: the accumulator holds what the lines so far come to (ResultTurns).
 use native.Mathlib.Omega.{arith}
 use borrow.Author.Needs.{needs}
-use mathlib.Core.Path.{_≡_}
 use Prim.Native.Nat.{_≤_, _-_}
 use lib.ListN.{length}
 use Rattle.reader.proofs.ResultTurns.{Held, roomy, held-start, held-turn, held-end}

@@ -1,5 +1,5 @@
 -- `point_of` meets its contract, by the two digits.
-use mathlib.Core.Path.{_≡_, sym, ap, _∙_}
+use mathlib.Core.Path.{sym, ap, _∙_}
 use mathlib.Core.List.{List}
 use Prim.Native.Nat.{ℕ}
 use Rattle.sheet.specs.Spelling.{comma, cut, readDigit}

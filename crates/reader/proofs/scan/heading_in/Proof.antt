@@ -1,5 +1,5 @@
 -- `heading_in` meets its contract, by cases on the line.
-use mathlib.Core.Path.{_≡_, refl, sym, ap, _∙_}
+use mathlib.Core.Path.{sym, ap, _∙_}
 use Rattle.sheet.specs.Line.{Line}
 use Rattle.reader.specs.Coded.{codedHeading}
 use Rattle.reader.specs.Scan.{headingOf}

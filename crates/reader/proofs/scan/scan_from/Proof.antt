@@ -3,13 +3,13 @@
 use native.Mathlib.Omega.{arith}
 use borrow.Author.Needs.{needs}
 use mathlib.Core.Path.{_≡_, sym, ap, subst, _∙_}
-use mathlib.Core.List.{List, []}
+use mathlib.Core.List.{[]}
 use Prim.Native.Nat.{_+_, _≤_, _-_}
 use lib.ListN.{length, drop, drop-of-length-le}
 use Rattle.digits.specs.Limits.{card}
 use Rattle.sheet.specs.Spelling.{lines}
 use Rattle.sheet.specs.Cut.{lines-none}
-use Rattle.reader.specs.State.{Counted, Follows, Stepped, misplacedFrom}
+use Rattle.reader.specs.State.{Counted, Stepped, misplacedFrom}
 use Rattle.reader.proofs.ScanTurns.{Going, going-start, going-same, going-turn, going-end, counted-turn}
 use Rattle.reader.proofs.scan.scan_from.Statement.{statement}
 use Rattle.reader.proofs.scan.scan_from.Tie as tie

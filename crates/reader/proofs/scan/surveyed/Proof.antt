@@ -1,11 +1,11 @@
 -- `surveyed` meets its contract: the header first, then the lines behind it (ScanTurns).
 use native.Mathlib.Omega.{arith}
-use mathlib.Core.Path.{_≡_, sym, ap, subst, _∙_}
-use mathlib.Core.List.{List, [], _∷_}
-use Prim.Native.Nat.{ℕ, _+_, _≤_}
-use lib.ListN.{length, drop, drop-of-length-le}
+use mathlib.Core.Path.{sym, ap, subst, _∙_}
+use mathlib.Core.List.{List, _∷_}
+use Prim.Native.Nat.{ℕ}
+use lib.ListN.{drop, drop-of-length-le}
 use Rattle.digits.specs.Limits.{card}
-use Rattle.sheet.specs.Line.{Line, Header, header}
+use Rattle.sheet.specs.Line.{Line}
 use Rattle.sheet.specs.Spelling.{lines}
 use Rattle.sheet.specs.Cut.{lines-none}
 use Rattle.sheet.specs.Questions.{misplaced}

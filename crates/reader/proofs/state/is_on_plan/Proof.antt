@@ -1,5 +1,5 @@
 -- `is_on_plan` meets its contract, by its two tests.
-use mathlib.Core.Path.{_≡_, sym, ap, ap₂, _∙_}
+use mathlib.Core.Path.{sym, ap, ap₂, _∙_}
 use mathlib.Core.Bool.{Bool, _&&_}
 use lib.Dec.{eqb}
 use Rattle.sheet.specs.Plan.{slots}

@@ -1,6 +1,6 @@
 -- `is_windowed` meets its contract, by its tests.
 use borrow.Author.Tests.{eq-eqb, ne-eqb}
-use mathlib.Core.Path.{_≡_, sym, ap, ap₂, _∙_}
+use mathlib.Core.Path.{sym, ap, ap₂, _∙_}
 use mathlib.Core.Bool.{Bool, _&&_}
 use Rattle.digits.specs.Row.{isWindow}
 use Rattle.sheet.specs.Questions.{windowed}

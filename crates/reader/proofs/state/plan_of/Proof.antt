@@ -1,5 +1,5 @@
 -- `plan_of` meets its contract, by the kind.
-use mathlib.Core.Path.{_≡_, sym, ap}
+use mathlib.Core.Path.{sym, ap}
 use mathlib.Core.Bool.{Bool}
 use Rattle.sheet.specs.Line.{planOf}
 use Rattle.reader.specs.Coded.{kindOf}

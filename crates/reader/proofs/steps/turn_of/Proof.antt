@@ -1,6 +1,5 @@
 -- `turn_of` meets its contract: a step's turn goes by the sizes of its digits.
-use mathlib.Core.Path.{_≡_, sym, ap, ap₂, _∙_}
-use Prim.Native.Nat.{ℕ}
+use mathlib.Core.Path.{sym, ap, ap₂, _∙_}
 use Rattle.sheet.specs.declared.Plan.{Plan}
 use Rattle.sheet.specs.Questions.{turn}
 use Rattle.reader.specs.State.{jointTurn, windowTurn}

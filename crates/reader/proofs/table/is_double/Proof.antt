@@ -1,5 +1,5 @@
 -- `is_double` meets its contract, by the two points.
-use mathlib.Core.Path.{_≡_, sym, ap, ap₂, _∙_}
+use mathlib.Core.Path.{sym, ap, ap₂, _∙_}
 use mathlib.Core.Bool.{Bool, _||_}
 use lib.IntN.{pos}
 use Rattle.sheet.specs.Plan.{point}

@@ -1,5 +1,5 @@
 -- `is_joint_table` meets its contract, by the number of T lines before.
-use mathlib.Core.Path.{_≡_, sym, ap, ap₂, _∙_}
+use mathlib.Core.Path.{sym, ap, ap₂, _∙_}
 use mathlib.Core.Bool.{Bool, _&&_}
 use lib.IntN.{negsuc}
 use Rattle.sheet.specs.Questions.{sameNumber}

@@ -1,5 +1,5 @@
 -- `is_point` meets its contract, by its two numbers.
-use mathlib.Core.Path.{_≡_, sym, ap, ap₂, _∙_}
+use mathlib.Core.Path.{sym, ap, ap₂, _∙_}
 use mathlib.Core.Bool.{Bool, _&&_}
 use Rattle.sheet.specs.Questions.{sameNumber}
 use lib.IntN.{pos}

@@ -1,7 +1,7 @@
 -- `is_window_table` meets its contract, by the number of T lines before.
 use native.Mathlib.Omega.{arith}
-use mathlib.Core.Path.{_≡_, sym, ap, subst, _∙_}
-use Prim.Native.Nat.{ℕ, _-_, _<_, _≤_}
+use mathlib.Core.Path.{ap, _∙_}
+use Prim.Native.Nat.{ℕ, _-_}
 use lib.IntN.{pos}
 use Rattle.sheet.specs.Plan.{point}
 use Rattle.sheet.specs.Questions.{samePoint}

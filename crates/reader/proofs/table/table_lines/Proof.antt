@@ -1,6 +1,6 @@
 -- `table_lines` meets its contract: the lengths of the two windows' lists.
 use native.Mathlib.Omega.{arith}
-use mathlib.Core.Path.{_≡_, sym, ap, _∙_}
+use mathlib.Core.Path.{ap}
 use lib.IntN.{pos}
 use lib.ListN.{length}
 use Rattle.sheet.specs.declared.Plan.{Plan}

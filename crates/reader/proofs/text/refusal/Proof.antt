@@ -1,8 +1,8 @@
 -- `refusal` meets its contract: the line's parts, from the last to the first.
 use native.Mathlib.Omega.{arith}
-use mathlib.Core.Path.{_≡_, sym, ap, _∙_}
+use mathlib.Core.Path.{sym, ap, _∙_}
 use mathlib.Core.List.{List, [], _∷_, _++_, append-assoc}
-use Prim.Native.Nat.{ℕ, _≤_}
+use Prim.Native.Nat.{ℕ}
 use Rattle.sheet.specs.Numeral.{numeral}
 use borrow.Author.Needs.{needs}
 use Rattle.reader.proofs.text.refusal.Statement.{statement}

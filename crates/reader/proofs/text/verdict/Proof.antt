@@ -1,8 +1,8 @@
 -- `verdict` meets its contract, by what `read` answers.
 use native.Mathlib.Omega.{arith}
-use mathlib.Core.Path.{_≡_, sym, ap, _∙_}
+use mathlib.Core.Path.{sym, ap, _∙_}
 use mathlib.Core.List.{List, _∷_}
-use Prim.Native.Nat.{ℕ, _≤_}
+use Prim.Native.Nat.{ℕ}
 use Rattle.reader.specs.Text.{judgementLine}
 use borrow.Author.Needs.{needs}
 use Rattle.reader.proofs.text.verdict.Statement.{statement}

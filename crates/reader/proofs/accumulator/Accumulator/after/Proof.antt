@@ -1,5 +1,5 @@
 -- `Accumulator::after` meets its contract, by cases on the line.
-use mathlib.Core.Path.{_≡_, refl, sym, subst, _∙_}
+use mathlib.Core.Path.{refl, sym, subst, _∙_}
 use Rattle.sheet.specs.Line.{Line}
 use Rattle.sheet.specs.Plan.{Point}
 use Rattle.reader.specs.Accumulator.{Moved, Loaded, Added}

@@ -1,6 +1,6 @@
 -- `Number::added` meets its contract: a part and a digit fit the limbs.
 use native.Mathlib.Omega.{arith}
-use mathlib.Core.Path.{_≡_, sym, ap, _∙_}
+use mathlib.Core.Path.{sym, ap, _∙_}
 use Prim.Native.Nat.{ℕ, _+_, _<_}
 use Rattle.reader.specs.Limbs.{limb, value}
 use Rattle.reader.proofs.LimbTurns.{digit-part, sign-minus, sign-plus}

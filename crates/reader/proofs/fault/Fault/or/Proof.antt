@@ -1,5 +1,5 @@
 -- `Fault::or` meets its contract, by cases.
-use mathlib.Core.Path.{_≡_, sym, ap, _∙_}
+use mathlib.Core.Path.{sym, ap, _∙_}
 use mathlib.Core.Bool.{Bool}
 use Rattle.sheet.specs.Questions.{unless}
 use Rattle.reader.specs.State.{found, earlier}

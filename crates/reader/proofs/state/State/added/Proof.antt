@@ -1,11 +1,10 @@
 -- `State::added` meets its contract: each question is one line of StateTurns.
 use native.Mathlib.Omega.{arith}
-use mathlib.Core.Path.{_≡_, refl, sym, ap, _∙_}
-use mathlib.Core.List.{List, [], _∷_}
-use Prim.Native.Nat.{ℕ}
+use mathlib.Core.Path.{refl, ap, _∙_}
+use mathlib.Core.List.{[], _∷_}
 use lib.ListN.{drop}
-use Rattle.sheet.specs.Plan.{Point, tables}
-use Rattle.sheet.specs.Line.{Line, add}
+use Rattle.sheet.specs.Plan.{tables}
+use Rattle.sheet.specs.Line.{add}
 use Rattle.reader.specs.State.{earlier, found}
 use Rattle.reader.proofs.StateTurns.{in-steps, differs-steps, load-add, excess-add, adds-add, doubles-add}
 use borrow.Author.Needs.{needs}

@@ -1,5 +1,5 @@
 -- `State::after` meets its contract, by cases on the phase.
-use mathlib.Core.Path.{_≡_, sym}
+use mathlib.Core.Path.{sym}
 use mathlib.Core.List.{[], _∷_}
 use Rattle.reader.proofs.StateTurns.{in-end}
 use borrow.Author.Needs.{needs}

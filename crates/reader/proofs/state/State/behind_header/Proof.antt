@@ -1,6 +1,6 @@
 -- `State::behind_header` meets its contract, by cases on the line.
-use mathlib.Core.Path.{_≡_, refl, sym, ap, subst, _∙_}
-use mathlib.Core.List.{List, [], _∷_}
+use mathlib.Core.Path.{sym, ap, subst, _∙_}
+use mathlib.Core.List.{[], _∷_}
 use Rattle.sheet.specs.Line.{Line, header, double, add, misspelled}
 use Rattle.reader.specs.State.{Follows, misplacedFrom}
 use Rattle.reader.proofs.Was.{was-header, was-table, was-load, was-double, was-add, was-end, was-misspelled}

@@ -1,13 +1,12 @@
 -- `State::doubled` meets its contract: each question is one line of StateTurns.
 use native.Mathlib.Omega.{arith}
-use mathlib.Core.Path.{_≡_, refl, sym, ap, ap₂, _∙_}
-use mathlib.Core.List.{List, [], _∷_}
-use mathlib.Core.Option.{Option}
+use mathlib.Core.Path.{refl, ap, ap₂, _∙_}
+use mathlib.Core.List.{[], _∷_}
 use Prim.Native.Nat.{ℕ, _+_}
 use lib.IntN.{pos}
 use lib.ListN.{drop}
-use Rattle.sheet.specs.Plan.{Point, point, tables}
-use Rattle.sheet.specs.Line.{Line, double}
+use Rattle.sheet.specs.Plan.{point, tables}
+use Rattle.sheet.specs.Line.{double}
 use Rattle.sheet.specs.Questions.{disallowedFrom}
 use Rattle.reader.specs.State.{earlier, found}
 use Rattle.reader.specs.declared.fault.Fault.{Fault}

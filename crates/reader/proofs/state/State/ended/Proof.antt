@@ -1,12 +1,11 @@
 -- `State::ended` meets its contract: each question is one line of StateTurns.
 use native.Mathlib.Omega.{arith}
-use mathlib.Core.Path.{_≡_, refl, sym, ap, _∙_}
-use mathlib.Core.List.{List, [], _∷_}
-use Prim.Native.Nat.{ℕ}
+use mathlib.Core.Path.{refl, ap, _∙_}
+use mathlib.Core.List.{[], _∷_}
 use lib.IntN.{pos}
 use lib.ListN.{drop}
-use Rattle.sheet.specs.Plan.{Point, point, tables}
-use Rattle.sheet.specs.Line.{Line, end}
+use Rattle.sheet.specs.Plan.{point, tables}
+use Rattle.sheet.specs.Line.{end}
 use Rattle.reader.specs.State.{earlier, found}
 use Rattle.reader.proofs.StateTurns.{in-steps, differs-steps, load-end, disallowed-end, excess-end, adds-end, doubles-end}
 use borrow.Author.Needs.{needs}

@@ -1,12 +1,10 @@
 -- `State::loaded` meets its contract: each question is one line of StateTurns.
 use native.Mathlib.Omega.{arith}
-use mathlib.Core.Path.{_≡_, refl, sym, ap, _∙_}
+use mathlib.Core.Path.{refl, sym, ap, _∙_}
 use mathlib.Core.List.{List, [], _∷_}
-use mathlib.Core.Option.{Option}
-use Prim.Native.Nat.{ℕ}
 use lib.ListN.{drop}
 use Rattle.sheet.specs.Plan.{Point, tables}
-use Rattle.sheet.specs.Line.{Line, load}
+use Rattle.sheet.specs.Line.{load}
 use Rattle.sheet.specs.Questions.{differs}
 use Rattle.reader.specs.State.{earlier, found}
 use Rattle.reader.proofs.Taken.{earlier-none}

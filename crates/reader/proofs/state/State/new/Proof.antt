@@ -1,6 +1,6 @@
 -- `State::new` meets its contract: each question is one line of StateTurns.
 use native.Mathlib.Omega.{arith}
-use mathlib.Core.Path.{_≡_, refl, sym, ap, _∙_}
+use mathlib.Core.Path.{refl, ap, _∙_}
 use mathlib.Core.List.{[]}
 use mathlib.Core.Option.{Option}
 use Prim.Native.Nat.{ℕ}
@@ -8,7 +8,7 @@ use Rattle.sheet.specs.declared.Plan.{Plan}
 use Rattle.sheet.specs.Plan.{tables}
 use Rattle.sheet.specs.Line.{plan}
 use Rattle.sheet.specs.Questions.{tableLines, differs, disallowedFrom, unless}
-use Rattle.reader.specs.State.{earlier, found, planFor, isOnPlan}
+use Rattle.reader.specs.State.{earlier, planFor, isOnPlan}
 use Rattle.reader.proofs.StateTurns.{begin-placed, begin-plan, begin-tables, begin-disallowed, begin-excess, begin-additions, begin-doublings}
 use borrow.Author.Needs.{needs}
 use Rattle.reader.proofs.state.State.new.Statement.{statement}

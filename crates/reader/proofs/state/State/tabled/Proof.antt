@@ -1,13 +1,11 @@
 -- `State::tabled` meets its contract: each question is one line of StateTurns.
 use native.Mathlib.Omega.{arith}
-use mathlib.Core.Path.{_≡_, refl, sym, ap, _∙_}
+use mathlib.Core.Path.{refl, sym, ap, _∙_}
 use mathlib.Core.List.{List, []}
-use mathlib.Core.Option.{Option}
-use Prim.Native.Nat.{ℕ}
 use lib.ListN.{drop}
 use Rattle.sheet.specs.Plan.{Point, tables}
-use Rattle.sheet.specs.Line.{Line, table}
-use Rattle.sheet.specs.Questions.{tableLines, differs, disallowedFrom, excessFrom}
+use Rattle.sheet.specs.Line.{table}
+use Rattle.sheet.specs.Questions.{tableLines, differs}
 use Rattle.reader.specs.State.{earlier, found}
 use Rattle.reader.proofs.StateTurns.{in-tables, differs-tables, header-table, lines-table, disallowed-table, excess-table, adds-double, adds-table, doubles-double, doubles-table}
 use borrow.Author.Needs.{needs}

@@ -1,5 +1,5 @@
 -- `Doubles::taken` meets its contract, by whether a D line is left.
-use mathlib.Core.Path.{_≡_, ap, _∙_}
+use mathlib.Core.Path.{ap, _∙_}
 use mathlib.Core.Option.{Option}
 use Prim.Native.Nat.{ℕ, _+_}
 use Rattle.sheet.specs.Questions.{excessFrom}

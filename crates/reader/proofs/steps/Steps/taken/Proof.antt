@@ -1,5 +1,5 @@
 -- `Steps::taken` meets its contract: a step is one line of Taken.
-use mathlib.Core.Path.{_≡_, ap, _∙_}
+use mathlib.Core.Path.{ap, _∙_}
 use mathlib.Core.Option.{Option}
 use Prim.Native.Nat.{ℕ, _+_}
 use Rattle.sheet.specs.Questions.{disallowedFrom}

@@ -1,5 +1,5 @@
 -- `Tables::closed` meets its contract: the line after the T lines is one line of Taken.
-use mathlib.Core.Path.{_≡_, refl, ap, _∙_}
+use mathlib.Core.Path.{refl, ap, _∙_}
 use Prim.Native.Nat.{ℕ}
 use lib.Dec.{leb}
 use Rattle.sheet.specs.Plan.{tables}

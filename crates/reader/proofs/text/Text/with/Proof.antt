@@ -1,9 +1,9 @@
 -- `Text::with` meets its contract: a byte is stored in front.
 use native.Mathlib.Omega.{arith}
 use mathlib.Core.Path.{_≡_, ap, _∙_}
-use mathlib.Core.List.{List, _∷_}
-use Prim.Native.Nat.{ℕ, _+_, _-_, _<_}
-use lib.ListN.{length, drop, length-set}
+use mathlib.Core.List.{_∷_}
+use Prim.Native.Nat.{ℕ, _+_, _-_}
+use lib.ListN.{drop, length-set}
 use Rattle.reader.proofs.TextTurns.{byte-before}
 use borrow.Author.Needs.{needs}
 use Rattle.reader.proofs.text.Text.with.Statement.{statement}

@@ -1,8 +1,7 @@
 -- `Text::with_decimal` meets its contract. The loop's invariant: the figures of what is left, and those done, are all (TextTurns).
 use native.Mathlib.Omega.{arith}
 use borrow.Author.Needs.{needs}
-use mathlib.Core.Path.{_≡_}
-use Prim.Native.Nat.{ℕ, _≤_}
+use Prim.Native.Nat.{_≤_}
 use Rattle.reader.proofs.TextTurns.{Turn, turn-start, turn-more, turn-last}
 use Rattle.reader.proofs.text.Text.with_decimal.Statement.{statement}
 use Rattle.reader.proofs.text.Text.with_decimal.Tie as tie

@@ -2,10 +2,10 @@
 use mathlib.Core.Path.{ap, _∙_}
 use mathlib.Core.List.{List}
 use Prim.Native.Nat.{ℕ}
 use Rattle.sheet.specs.Field.{isNumeral}
 use borrow.Author.Needs.{needs}
-use Rattle.reader.proofs.line.is_scalar_at.Statement.{statement}
-use Rattle.reader.proofs.line.is_scalar_at.Tie as tie
+use Rattle.sheet.proofs.fields.is_scalar_at.Statement.{statement}
+use Rattle.sheet.proofs.fields.is_scalar_at.Tie as tie
 
 field-requires : tie.Need-field-requires
 field-requires c κs = search needs

@@ -2,11 +2,11 @@
 use mathlib.Core.Path.{ap, _∙_}
 use mathlib.Core.List.{List}
 use Prim.Native.Nat.{ℕ}
 use Rattle.sheet.specs.Spelling.{readDecimal}
 use Rattle.sheet.specs.Field.{decimalOf}
 use borrow.Author.Needs.{needs}
-use Rattle.reader.proofs.line.decimal_at.Statement.{statement}
-use Rattle.reader.proofs.line.decimal_at.Tie as tie
+use Rattle.sheet.proofs.fields.decimal_at.Statement.{statement}
+use Rattle.sheet.proofs.fields.decimal_at.Tie as tie
 
 field-requires : tie.Need-field-requires
 field-requires c κs = search needs
