@@ -1,5 +1,5 @@
--- The starred samples of 01 for rows and the joint sparse form: one table, one computed test, and the law that turns the
--- test into what each entry says.
+-- The starred samples of 01 together: one table of rows, joint sparse forms and what the order program prints, one computed
+-- test, and the law that turns the test into what each entry says.
 use mathlib.Core.Path.{_≡_, refl, sym, ap₂, subst}
 use mathlib.Core.Logic.{⊎-elim}
 use mathlib.Core.Bool.{Bool, true, false, _&&_}
@@ -7,16 +7,28 @@ use mathlib.Core.List.{List, [], _∷_, List·Memᴰ, List·Memᴰ·not-nil, Lis
 use Prim.Native.Nat.{ℕ}
 use lib.Dec.{T}
 use lib.IntN.{ℤ, pos, negℤ}
+use lib.ListN.{getD}
 use mir.Facts.{and-yes, yes-and}
 use Rattle.digits.specs.Integer.{half}
 use Rattle.digits.specs.Column
 use Rattle.digits.specs.Column.{weight}
+use Rattle.digits.specs.Limits.{card}
 use Rattle.digits.specs.Scalar.{bitLength, bitLengthIn}
 use Rattle.digits.specs.Two.{Column, P, Q, two}
 use Rattle.recode.specs.Residue.{residue, width}
 use Rattle.recode.specs.Row
 use Rattle.recode.specs.Joint
 use Rattle.recode.specs.Test.{Test, both, equal, same}
+use Rattle.sheet.specs.Ascii.{ascii}
+use Rattle.sheet.specs.Numeral.{numeralIn, numeral, figures, followed, number}
+use Rattle.sheet.specs.Plan.{odds}
+use Rattle.sheet.specs.Questions.{additions, doublings}
+use Rattle.sheet.specs.Sound.{moveLines, sheetLines}
+use Rattle.sheet.specs.Spelling.{lineFeed, join, spell, cut}
+use Rattle.writer.specs.Written.{paired, digits, addAll, movesOf, stepsOf, writtenLines, written, writtenAdditions}
+use Rattle.chooser.specs.Cheapest.{interleaved, plans, within, key, cheapestPlan, cheapest}
+use Rattle.chooser.specs.Lexicographic.{before, least}
+use Rattle.order.specs.Order.{lineOf, readFields, readOrder, printed}
 
 infix 90 +_
 infix 90 −_
@@ -35,6 +47,10 @@ pub data Sample : Type 0 where
   joint : (k l : ℕ) (ps qs : List ℤ) → Sample
   -- how many of its columns are not zero, and how many where the non-adjacent rows of k and l make the columns
   columns : (k l : ℕ) (few more : ℕ) → Sample
+  -- what the order program prints for a line, whole
+  prints : (line text : List ℕ) → Sample
+  -- the first line of what it prints
+  heads : (line header : List ℕ) → Sample
 
 -- two rows as columns, with zeros above the shorter
 abbrev over : List ℤ → List ℤ → List Column
@@ -50,6 +66,8 @@ Says (joint k l ps qs) =
     (Column.row two P (Joint.joint (pos k) (pos l)) ≡ ps) × (Column.row two Q (Joint.joint (pos k) (pos l)) ≡ qs)
 Says (columns k l few more) =
     (weight two (Joint.joint (pos k) (pos l)) ≡ few) × (weight two (over (Row.row 1 (pos k)) (Row.row 1 (pos l))) ≡ more)
+Says (prints line text) = printed card line ≡ text
+Says (heads line header) = getD (cut lineFeed (printed card line)) 0 [] ≡ header
 
 -- the samples, in 01's order; 0 has the empty row for every window (`row-zero`)
 abbrev pub samples : List Sample
@@ -65,29 +83,38 @@ samples =
     ∷ joint 7 2 (− 1 ∷ + 0 ∷ + 0 ∷ + 1 ∷ []) (+ 0 ∷ + 1 ∷ + 0 ∷ + 0 ∷ [])
     ∷ joint 3 2 (+ 1 ∷ + 1 ∷ []) (+ 0 ∷ + 1 ∷ [])
     ∷ joint 1 2 (+ 1 ∷ + 0 ∷ []) (+ 0 ∷ + 1 ∷ [])
+    ∷ heads (ascii "3,0,1\n") (ascii "S,I,1,1,0,1,2,3,0")
+    ∷ prints (ascii "7,2,0\n") (ascii "S,I,1,1,0,2,3,7,2\nL,1,0\nD\nD\nA,0,1\nD\nA,-1,0\nE\n")
     ∷ []
 
--- the test of an equation of rows
-abbrev agree : List ℤ → List ℤ → Bool
-agree [] [] = true
-agree (d ∷ ds) [] = false
-agree [] (e ∷ es) = false
-agree (d ∷ ds) (e ∷ es) = same d e .test && agree ds es
+-- the test of an equation of lists, by a test of their entries
+module _ {A : Type 0} (entry : (x y : A) → Test (x ≡ y)) where
+  abbrev agree : List A → List A → Bool
+  agree [] [] = true
+  agree (x ∷ xs) [] = false
+  agree [] (y ∷ ys) = false
+  agree (x ∷ xs) (y ∷ ys) = entry x y .test && agree xs ys
 
-agree-tells : (ds es : List ℤ) → T (agree ds es) → ds ≡ es
-agree-tells [] [] t = refl
-agree-tells (d ∷ ds) [] t = absurd t
-agree-tells [] (e ∷ es) t = absurd t
-agree-tells (d ∷ ds) (e ∷ es) t =
-    let y = and-yes (same d e .test) (agree ds es) t in ap₂ _∷_ (same d e .tells (y .0)) (agree-tells ds es (y .1))
+  agree-tells : (xs ys : List A) → T (agree xs ys) → xs ≡ ys
+  agree-tells [] [] t = refl
+  agree-tells (x ∷ xs) [] t = absurd t
+  agree-tells [] (y ∷ ys) t = absurd t
+  agree-tells (x ∷ xs) (y ∷ ys) t =
+      let z = and-yes (entry x y .test) (agree xs ys) t in ap₂ _∷_ (entry x y .tells (z .0)) (agree-tells xs ys (z .1))
 
-agree-self : (ds : List ℤ) → T (agree ds ds)
-agree-self [] = tt
-agree-self (d ∷ ds) = yes-and (same d d .test) (agree ds ds) (same d d .shows refl) (agree-self ds)
+  agree-self : (xs : List A) → T (agree xs xs)
+  agree-self [] = tt
+  agree-self (x ∷ xs) = yes-and (entry x x .test) (agree xs xs) (entry x x .shows refl) (agree-self xs)
+
+  abbrev sameList : (xs ys : List A) → Test (xs ≡ ys)
+  sameList xs ys =
+      record { test = agree xs ys; tells = agree-tells xs ys; shows = λ e. subst (λ ys. T (agree xs ys)) e (agree-self xs) }
 
 abbrev sameRow : (ds es : List ℤ) → Test (ds ≡ es)
-sameRow ds es =
-    record { test = agree ds es; tells = agree-tells ds es; shows = λ e. subst (λ es. T (agree ds es)) e (agree-self ds) }
+sameRow = sameList same
+
+abbrev sameText : (s t : List ℕ) → Test (s ≡ t)
+sameText = sameList equal
 
 -- the test of a sample
 abbrev sample : (s : Sample) → Test (Says s)
@@ -96,6 +123,8 @@ sample (joint k l ps qs) =
     both (sameRow (Column.row two P (Joint.joint (pos k) (pos l))) ps) (sameRow (Column.row two Q (Joint.joint (pos k) (pos l))) qs)
 sample (columns k l few more) =
     both (equal (weight two (Joint.joint (pos k) (pos l))) few) (equal (weight two (over (Row.row 1 (pos k)) (Row.row 1 (pos l)))) more)
+sample (prints line text) = sameText (printed card line) text
+sample (heads line header) = sameText (getD (cut lineFeed (printed card line)) 0 []) header
 
 -- the test of a table, and what it tells of each entry
 abbrev all : List Sample → Bool
@@ -109,7 +138,7 @@ all-tells (x ∷ ss) t s m =
     ⊎-elim (λ e. subst Says (sym e) (sample x .tells (y .0))) (λ n. all-tells ss (y .1) s n) (List·Memᴰ·cases-cons m)
 
 table : T (all samples)
-unfolding Row.row Row.rowIn Row.digit Row.rest residue width bitLength bitLengthIn half Joint.joint Joint.jointIn Joint.column Joint.digit Joint.rest Column.row weight
+unfolding Row.row Row.rowIn Row.digit Row.rest residue width bitLength bitLengthIn half Joint.joint Joint.jointIn Joint.column Joint.digit Joint.rest Column.row weight numeralIn numeral figures followed number odds additions doublings moveLines sheetLines join spell cut paired digits addAll movesOf stepsOf writtenLines written writtenAdditions interleaved plans within key cheapestPlan cheapest before least lineOf readFields readOrder printed
 table = tt
 
 -- each sample of the table is true

@@ -24,4 +24,3 @@ pub mod Call
 pub mod RowAnswers
 pub mod JointAnswers
 pub mod Promise
-pub mod Samples

@@ -1,7 +1,9 @@
-// Runs the row and joint calls, and writes a line for each case: the digits from place 0 on, or the number of the refusal.
+// Runs the row and joint calls, and writes a line for each case: the digits from place 0 on, or the number of the refusal; then
+// the cheapest call and the reader at their limits.
 // The file `stdout` has what document 01 and source documents 002 and 003 say.
 use libc::STDOUT_FILENO;
 use recode::Recoded;
+use writer::Sheet;
 ghost use Prim.Native.Nat.{_≤_};
 
 // What the places of a buffer hold before a call.
@@ -18,6 +20,7 @@ fn main() {
     joint_room_refusals();
     runs();
     documents();
+    sheets();
 }
 
 // The starred samples.
@@ -120,6 +123,49 @@ fn documents() {
     joint_of(53, 42, 9, 9);
 }
 
+// The highest limit of slots, the smallest sheet buffer and the longest sheet, and one beyond each.
+fn sheets() {
+    let mut high = [LENT; 16384];
+    cheapest(30, &mut high);
+    let mut beyond = [LENT; 16384];
+    cheapest(31, &mut beyond);
+    let mut short = [LENT; 16383];
+    cheapest(30, &mut short);
+    let longest = [b'E'; 16384];
+    judge(&longest);
+    let longer = [b'E'; 16385];
+    judge(&longer);
+}
+
+// The cheapest sheet of 7, 2 under a limit.
+fn cheapest(limit: u32, sheet: &mut [u8]) {
+    print(b"cheapest 7, 2 within ");
+    io::print_decimal(STDOUT_FILENO, limit as u64);
+    print(b":");
+    let answer = chooser::cheapest(b"\x07", b"\x02", limit, sheet);
+    if let Sheet::Written(n, additions) = answer {
+        print(b" ");
+        io::print_decimal(STDOUT_FILENO, n as u64);
+        print(b" bytes, additions ");
+        io::print_decimal(STDOUT_FILENO, additions as u64);
+    } else {
+        print_refusal(sheet_number(answer));
+        print_changed(sheet);
+    }
+    print(b"\n");
+}
+
+// What the reader says of a sheet.
+fn judge(sheet: &[u8]) {
+    print(b"sheet of ");
+    io::print_decimal(STDOUT_FILENO, sheet.len() as u64);
+    print(b" bytes: ");
+    let text = reader::verdict(sheet);
+    let at = text.at;
+    let bytes = text.bytes;
+    io::write_all(STDOUT_FILENO, &bytes[at..]);
+}
+
 // The row of a scalar of one byte for the window m, in a buffer of so many places.
 fn row_of(c: u8, m: u32, places: usize)
     requires { ⌜ places ≤ 600 ⌝ }
@@ -159,7 +205,7 @@ fn call_row(scalar: &[u8], m: u32, digits: &mut [u8]) {
     if let Recoded::Written(n) = answer {
         print_row(digits, n);
     } else {
-        print_refusal(answer);
+        print_refusal(number(answer));
         print_changed(digits);
     }
 }
@@ -205,7 +251,7 @@ fn call_joint(k: &[u8], l: &[u8], k_digits: &mut [u8], l_digits: &mut [u8]) {
         print(b" /");
         print_row(l_digits, n);
     } else {
-        print_refusal(answer);
+        print_refusal(number(answer));
         print_changed(k_digits);
         print_changed(l_digits);
     }
@@ -221,9 +267,20 @@ fn number(answer: Recoded) -> u64 {
     }
 }
 
-fn print_refusal(answer: Recoded) {
+// The same of the answer to a sheet call.
+fn sheet_number(answer: Sheet) -> u64 {
+    match answer {
+        Sheet::BadScalar => 1,
+        Sheet::BadWindow => 2,
+        Sheet::NoRoom => 3,
+        Sheet::BadLimit => 4,
+        Sheet::Written(_, _) => 0,
+    }
+}
+
+fn print_refusal(number: u64) {
     print(b" refused ");
-    io::print_decimal(STDOUT_FILENO, number(answer));
+    io::print_decimal(STDOUT_FILENO, number);
 }
 
 // How many places of a buffer a refusal changed.

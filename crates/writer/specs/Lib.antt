@@ -4,7 +4,6 @@ pub mod Written
 pub mod Call
 pub mod Promise
 pub mod Accepted
-pub mod Samples
 pub mod Columns
 pub mod Steps
 pub mod Lengths

@@ -1,0 +1,4 @@
+pub mod Lines
+pub mod Hexadecimal
+pub mod Orders
+pub mod Printed

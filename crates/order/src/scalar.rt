@@ -1,0 +1,49 @@
+ghost use mathlib.Core.Path.{_≡_};
+ghost use mathlib.Core.Bool.{true};
+ghost use mathlib.Core.List.{_++_};
+ghost use Prim.Native.Nat.{_<_, _≤_};
+ghost use lib.ListN.{length, getD, take, replicate};
+ghost use Rattle.digits.specs.Scalar;
+ghost use Rattle.sheet.specs.Numeral.{worth, figures, followed};
+
+// The bytes of a scalar, and how many there are.
+pub struct Bytes {
+    pub bytes: [u8; 66],
+    pub len: usize,
+}
+
+// The figure at a place of a field that has `pad` zeros in front of it.
+fn figure_at(field: &[u8], pad: usize, at: usize) -> u8
+    requires { ⌜ figures 16 (now field) ≡ true ⌝ }
+    ensures { λ r. ⌜ (r ≡ worth (getD (replicate pad 48 ++ now (field .entry)) at 48)) × (r < 16) ⌝ }
+{
+    if at < pad {
+        return 0;
+    }
+    let k = at - pad;
+    if k < field.len() {
+        return sheet::figures::worth_of(field[k]) as u8;
+    }
+    0
+}
+
+// The bytes of a scalar that is spelled in hexadecimal figures.
+pub fn bytes_of(field: &[u8]) -> Bytes
+    requires { ⌜ ((1 ≤ length (now field)) × (length (now field) ≤ 132)) × (figures 16 (now field) ≡ true) ⌝ }
+    ensures { λ r. ⌜ ((1 ≤ r .len) × (r .len ≤ 66)) × ((length (r .bytes) ≡ 66) × (Scalar.scalar (take (r .len) (r .bytes)) ≡ followed 16 0 (now (field .entry)))) ⌝ }
+{
+    let pad = field.len() % 2;
+    let len = (field.len() + pad) / 2;
+    let mut bytes = [0u8; 66];
+    let mut i = 0;
+    while i < len {
+        let high = figure_at(field, pad, 2 * i);
+        let low = figure_at(field, pad, 2 * i + 1);
+        bytes[i] = 16 * high + low;
+        i += 1;
+    }
+    Bytes {
+        bytes: bytes,
+        len: len,
+    }
+}
