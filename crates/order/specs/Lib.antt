@@ -1,3 +1,4 @@
 pub mod Order
 pub mod Samples
+pub mod Longest
 pub mod Promise

@@ -1,0 +1,231 @@
+/* Times the library's calls beside plain C on the same random scalars, once both are seen to give the same answers and bytes. */
+#define _POSIX_C_SOURCE 199309L
+
+#include "peer.h"
+#include "sheets.h"
+
+#include <stdio.h>
+#include <stdlib.h>
+#include <string.h>
+#include <time.h>
+
+/* Pairs are timed in groups, so short that some pass over each goes undisturbed. */
+enum { GROUP = 16, GROUPS = 16, PAIRS = GROUP * GROUPS };
+
+/* The least number of passes over all groups, and the least time of all passes in nanoseconds. */
+enum { LEAST_PASSES = 21, LEAST_TIME = 600000000 };
+
+enum { MOST_BYTES = 66, UNTOUCHED = 0xaa };
+
+/* ---- both sides ---- */
+
+struct calls {
+    uint64_t (*row)(const uint8_t *, size_t, uint32_t, uint8_t *, size_t);
+    uint64_t (*joint)(const uint8_t *, size_t, const uint8_t *, size_t, uint8_t *, size_t, uint8_t *, size_t);
+    uint64_t (*plan_j)(const uint8_t *, size_t, const uint8_t *, size_t, uint8_t *, size_t);
+    uint64_t (*plan_i)(const uint8_t *, size_t, const uint8_t *, size_t, uint32_t, uint32_t, uint8_t *, size_t);
+    uint64_t (*cheapest)(const uint8_t *, size_t, const uint8_t *, size_t, uint32_t, uint8_t *, size_t);
+    uint64_t (*read)(const uint8_t *, size_t);
+};
+
+static const struct calls library = {sheets_row, sheets_joint, sheets_plan_j, sheets_plan_i, sheets_cheapest, sheets_read};
+static const struct calls plain_c = {peer_row, peer_joint, peer_plan_j, peer_plan_i, peer_cheapest, peer_read};
+
+/* ---- inputs and outputs ---- */
+
+/* Pairs of scalars of one length, and a sheet of each, one behind the other. */
+struct inputs {
+    size_t bytes;
+    uint8_t k[PAIRS][MOST_BYTES], l[PAIRS][MOST_BYTES];
+    uint8_t sheets[PAIRS * SHEETS_BYTES];
+    size_t start[PAIRS + 1];
+};
+
+/* What a call may write: two rows of digits, or a sheet. */
+struct output {
+    uint8_t k_digits[SHEETS_PLACES(MOST_BYTES)], l_digits[SHEETS_PLACES(MOST_BYTES)], sheet[SHEETS_BYTES];
+};
+
+/* splitmix64, of a fixed seed. */
+static uint64_t next_random(uint64_t *state)
+{
+    uint64_t z = *state += 0x9e3779b97f4a7c15;
+
+    z = (z ^ z >> 30) * 0xbf58476d1ce4e5b9;
+    z = (z ^ z >> 27) * 0x94d049bb133111eb;
+    return z ^ z >> 31;
+}
+
+static void fill_scalars(struct inputs *in, size_t bytes)
+{
+    uint64_t state = bytes;
+
+    in->bytes = bytes;
+    for (size_t i = 0; i < PAIRS; i++)
+        for (size_t j = 0; j < bytes; j++) {
+            in->k[i][j] = (uint8_t)next_random(&state);
+            in->l[i][j] = (uint8_t)next_random(&state);
+        }
+}
+
+/* ---- the works ---- */
+
+/* A call on the pair at i, with the numbers a and b; a reading work has the work that writes its sheets. */
+struct work {
+    const char *name;
+    uint64_t (*call)(const struct calls *, const struct work *, const struct inputs *, size_t i, struct output *);
+    uint32_t a, b;
+    const struct work *writes;
+};
+
+static uint64_t row(const struct calls *c, const struct work *w, const struct inputs *in, size_t i, struct output *out)
+{
+    return c->row(in->k[i], in->bytes, w->a, out->k_digits, SHEETS_PLACES(in->bytes));
+}
+
+static uint64_t joint(const struct calls *c, const struct work *w, const struct inputs *in, size_t i, struct output *out)
+{
+    size_t places = SHEETS_PLACES(in->bytes);
+
+    (void)w;
+    return c->joint(in->k[i], in->bytes, in->l[i], in->bytes, out->k_digits, places, out->l_digits, places);
+}
+
+static uint64_t plan_j(const struct calls *c, const struct work *w, const struct inputs *in, size_t i, struct output *out)
+{
+    (void)w;
+    return c->plan_j(in->k[i], in->bytes, in->l[i], in->bytes, out->sheet, SHEETS_BYTES);
+}
+
+static uint64_t plan_i(const struct calls *c, const struct work *w, const struct inputs *in, size_t i, struct output *out)
+{
+    return c->plan_i(in->k[i], in->bytes, in->l[i], in->bytes, w->a, w->b, out->sheet, SHEETS_BYTES);
+}
+
+static uint64_t cheapest(const struct calls *c, const struct work *w, const struct inputs *in, size_t i, struct output *out)
+{
+    return c->cheapest(in->k[i], in->bytes, in->l[i], in->bytes, w->a, out->sheet, SHEETS_BYTES);
+}
+
+static uint64_t read_sheet(const struct calls *c, const struct work *w, const struct inputs *in, size_t i, struct output *out)
+{
+    (void)w;
+    (void)out;
+    return c->read(in->sheets + in->start[i], in->start[i + 1] - in->start[i]);
+}
+
+enum { WIDEST = 5, LARGEST = 8 };
+
+static const struct work works[] = {
+    {"row, m = 1", row, 1, 0, NULL},
+    {"row, m = 5", row, 5, 0, NULL},
+    {"row, m = 31", row, 31, 0, NULL},
+    {"joint", joint, 0, 0, NULL},
+    {"plan J", plan_j, 0, 0, NULL},
+    [WIDEST] = {"plan I 31, 31", plan_i, 31, 31, NULL},
+    {"cheapest, limit 0", cheapest, 0, 0, NULL},
+    {"cheapest, limit 8", cheapest, 8, 0, NULL},
+    [LARGEST] = {"cheapest, limit 30", cheapest, 30, 0, NULL},
+    {"read, cheapest, limit 30", read_sheet, 0, 0, &works[LARGEST]},
+    {"read, plan I 31, 31", read_sheet, 0, 0, &works[WIDEST]},
+};
+
+static void fill_sheets(struct inputs *in, const struct work *w, struct output *out)
+{
+    in->start[0] = 0;
+    for (size_t i = 0; i < PAIRS; i++) {
+        size_t length = sheets_length(w->call(&plain_c, w, in, i, out));
+
+        memcpy(in->sheets + in->start[i], out->sheet, length);
+        in->start[i + 1] = in->start[i] + length;
+    }
+}
+
+/* ---- the check ---- */
+
+/* Ends the program unless both sides give the same answer and leave the same bytes. */
+static void check(const struct work *w, const struct inputs *in)
+{
+    static struct output ours, theirs;
+
+    for (size_t i = 0; i < PAIRS; i++) {
+        memset(&ours, UNTOUCHED, sizeof ours);
+        memset(&theirs, UNTOUCHED, sizeof theirs);
+        if (w->call(&library, w, in, i, &ours) != w->call(&plain_c, w, in, i, &theirs)
+            || memcmp(&ours, &theirs, sizeof ours) != 0) {
+            fprintf(stderr, "%s, %zu bytes: library and plain C differ on pair %zu\n", w->name, in->bytes, i);
+            exit(1);
+        }
+    }
+}
+
+/* ---- the times ---- */
+
+/* The shortest time of each group, in nanoseconds; 0 before the first. */
+struct times {
+    double best[GROUPS];
+};
+
+static double now(void)
+{
+    struct timespec t;
+
+    clock_gettime(CLOCK_MONOTONIC, &t);
+    return 1e9 * (double)t.tv_sec + (double)t.tv_nsec;
+}
+
+/* Takes each group once. */
+static void pass(const struct calls *c, const struct work *w, const struct inputs *in, struct output *out, struct times *times)
+{
+    for (size_t g = 0; g < GROUPS; g++) {
+        double start = now(), time;
+
+        for (size_t i = g * GROUP; i < (g + 1) * GROUP; i++)
+            w->call(c, w, in, i, out);
+        time = now() - start;
+        if (times->best[g] == 0 || time < times->best[g])
+            times->best[g] = time;
+    }
+}
+
+/* Nanoseconds a call. */
+static double mean(const struct times *times)
+{
+    double sum = 0;
+
+    for (size_t g = 0; g < GROUPS; g++)
+        sum += times->best[g];
+    return sum / PAIRS;
+}
+
+/* Prints a row of the table. The two sides pass in turn. */
+static void measure(const struct work *w, const struct inputs *in, struct output *out)
+{
+    struct times ours = {{0}}, theirs = {{0}};
+    double start = now();
+
+    for (int i = 0; i < LEAST_PASSES || now() - start < LEAST_TIME; i++) {
+        pass(&library, w, in, out, &ours);
+        pass(&plain_c, w, in, out, &theirs);
+    }
+    printf("| %s | %zu | %.0f | %.0f | %.2f |\n", w->name, in->bytes, mean(&ours), mean(&theirs), mean(&ours) / mean(&theirs));
+    fflush(stdout);
+}
+
+int main(void)
+{
+    static const size_t lengths[] = {32, 66};
+    static struct inputs in;
+    static struct output out;
+
+    printf("| work | bytes | library ns | plain C ns | ratio |\n|---|---|---|---|---|\n");
+    for (size_t i = 0; i < sizeof works / sizeof *works; i++)
+        for (size_t j = 0; j < sizeof lengths / sizeof *lengths; j++) {
+            fill_scalars(&in, lengths[j]);
+            if (works[i].writes)
+                fill_sheets(&in, works[i].writes, &out);
+            check(&works[i], &in);
+            measure(&works[i], &in, &out);
+        }
+    return 0;
+}

@@ -1,0 +1,803 @@
+#include "peer.h"
+
+#include <string.h>
+
+enum {
+    MOST_BYTES = 66,
+    MOST_FIGURES = 2 * MOST_BYTES,
+    PLACES = 8 * MOST_BYTES + 1,
+    WORDS = 9,
+    WIDEST = 31,
+    WINDOWS = 16,
+    MOST_SLOTS = 30,
+    JOINT_SLOTS = 2,
+    MOST_DOUBLES = 528,
+    SHEET_BYTES = 16384
+};
+
+/* ---- answers and questions 1 to 4 ---- */
+
+static uint64_t refusal(unsigned number, unsigned line)
+{
+    return (uint64_t)number << 32 | line;
+}
+
+static int is_scalar(size_t n)
+{
+    return 1 <= n && n <= MOST_BYTES;
+}
+
+static int is_window(uint32_t m)
+{
+    return m % 2 == 1 && m <= WIDEST;
+}
+
+static size_t larger(size_t a, size_t b)
+{
+    return a < b ? b : a;
+}
+
+/* ---- scalars as bits ---- */
+
+/* A scalar's words, the least significant first, a word of zeros above them, and its bit length. */
+struct bits {
+    uint64_t word[WORDS + 1];
+    unsigned length;
+};
+
+static unsigned bit_length(const uint64_t *word)
+{
+    for (unsigned i = WORDS; i > 0; i--)
+        if (word[i - 1] != 0)
+            return 64 * i - (unsigned)__builtin_clzll(word[i - 1]);
+    return 0;
+}
+
+static struct bits bits_of(const uint8_t *bytes, size_t n)
+{
+    struct bits b = {{0}, 0};
+
+    for (size_t i = 0; i < n; i++)
+        b.word[i / 8] |= (uint64_t)bytes[n - 1 - i] << 8 * (i % 8);
+    b.length = bit_length(b.word);
+    return b;
+}
+
+/* The 64 bits from a place on. */
+static uint64_t bits_from(const struct bits *b, unsigned at)
+{
+    unsigned i = at / 64, shift = at % 64;
+
+    return b->word[i] >> shift | b->word[i + 1] << 1 << (63 - shift);
+}
+
+/* ---- rows and joint columns ---- */
+
+/* How many places were written, and how many of them are not zero. */
+struct recoded {
+    unsigned places, weight;
+};
+
+/* W of a window: the smallest with m < 2^(W-1). */
+static unsigned width_of(unsigned m)
+{
+    return 33 - (unsigned)__builtin_clz(m);
+}
+
+/* The signed residue of x for a width. */
+static int residue(uint64_t x, unsigned width)
+{
+    return (int)((int64_t)(x << (64 - width)) >> (64 - width));
+}
+
+static unsigned size_of(int digit)
+{
+    return (unsigned)(digit < 0 ? -digit : digit);
+}
+
+/* Writes a row into places that hold 0. The remainder at a place is the bits from there on, and the carry. */
+static struct recoded recode_row(const struct bits *b, unsigned m, uint8_t *digits)
+{
+    struct recoded row = {0, 0};
+    unsigned w = width_of(m), at = 0, carry = 0;
+
+    while (at < b->length || carry) {
+        uint64_t x = bits_from(b, at), ends = x ^ -(uint64_t)carry;
+        unsigned zeros, width = w;
+        int digit;
+
+        /* Where every bit is the carry, the digits are 0; the six uppermost stay for the next window. */
+        if (ends << 6 == 0) {
+            at += 58;
+            continue;
+        }
+        zeros = (unsigned)__builtin_ctzll(ends);
+        at += zeros;
+        x = (x >> zeros) + carry;
+        digit = residue(x, w);
+        if (size_of(digit) > m)
+            digit = residue(x, --width);
+        digits[at] = (uint8_t)digit;
+        carry = digit < 0;
+        row.places = at + 1;
+        row.weight++;
+        at += width;
+    }
+    return row;
+}
+
+/* The digit of a remainder x beside y: of an odd x the residue by 4, turned where x is 3 or 5 by 8 and y is 2 by 4. */
+static int joint_digit(unsigned x, unsigned y)
+{
+    unsigned turned = (x >> 1 ^ x >> 2) & y >> 1 & ~y;
+    unsigned negative = (x >> 1 ^ turned) & 1;
+
+    return (int)(x & 1) * (1 - 2 * (int)negative);
+}
+
+/* The carry to the next place, from the bit, the carry and the digit of this one. */
+static unsigned carry_of(uint64_t bits, unsigned carry, int digit)
+{
+    return (unsigned)((int)(bits & 1) + (int)carry - digit) / 2;
+}
+
+/* Writes joint columns, two rows, into places that hold 0. */
+static struct recoded recode_joint(const struct bits *k, const struct bits *l, uint8_t *k_digits, uint8_t *l_digits)
+{
+    struct recoded joint = {0, 0};
+    unsigned length = k->length < l->length ? l->length : k->length, at = 0, k_carry = 0, l_carry = 0;
+
+    while (at < length || k_carry || l_carry) {
+        uint64_t k_bits = bits_from(k, at), l_bits = bits_from(l, at);
+        uint64_t ends = (k_bits ^ -(uint64_t)k_carry) | (l_bits ^ -(uint64_t)l_carry);
+        unsigned zeros, x, y;
+        int p, q;
+
+        /* As in a row; three bits stay for the next column. */
+        if (ends << 3 == 0) {
+            at += 61;
+            continue;
+        }
+        zeros = (unsigned)__builtin_ctzll(ends);
+        at += zeros;
+        x = (unsigned)(k_bits >> zeros & 7) + k_carry;
+        y = (unsigned)(l_bits >> zeros & 7) + l_carry;
+        p = joint_digit(x, y);
+        q = joint_digit(y, x);
+        k_digits[at] = (uint8_t)p;
+        l_digits[at] = (uint8_t)q;
+        k_carry = carry_of(k_bits >> zeros, k_carry, p);
+        l_carry = carry_of(l_bits >> zeros, l_carry, q);
+        joint.weight++;
+        joint.places = ++at;
+    }
+    return joint;
+}
+
+uint64_t peer_row(const uint8_t *scalar, size_t n, uint32_t m, uint8_t *digits, size_t places)
+{
+    struct bits b;
+
+    if (!is_scalar(n))
+        return refusal(1, 0);
+    if (!is_window(m))
+        return refusal(2, 0);
+    if (places < 8 * n + 1)
+        return refusal(3, 0);
+    b = bits_of(scalar, n);
+    memset(digits, 0, places);
+    return recode_row(&b, m, digits).places;
+}
+
+uint64_t peer_joint(const uint8_t *k, size_t kn, const uint8_t *l, size_t ln, uint8_t *k_digits, size_t k_places,
+                    uint8_t *l_digits, size_t l_places)
+{
+    struct bits kb, lb;
+
+    if (!is_scalar(kn) || !is_scalar(ln))
+        return refusal(1, 0);
+    if (k_places < 8 * larger(kn, ln) + 1 || l_places < 8 * larger(kn, ln) + 1)
+        return refusal(3, 0);
+    kb = bits_of(k, kn);
+    lb = bits_of(l, ln);
+    memset(k_digits, 0, k_places);
+    memset(l_digits, 0, l_places);
+    return recode_joint(&kb, &lb, k_digits, l_digits).places;
+}
+
+/* ---- plans ---- */
+
+/* Plan J, whose windows are both 1, or plan I. */
+struct plan {
+    int joint;
+    unsigned m1, m2;
+};
+
+static struct plan plan_i(unsigned m1, unsigned m2)
+{
+    struct plan plan = {0, m1, m2};
+
+    return plan;
+}
+
+static struct plan plan_j(void)
+{
+    struct plan plan = {1, 1, 1};
+
+    return plan;
+}
+
+static unsigned slots_of(struct plan plan)
+{
+    return plan.joint ? JOINT_SLOTS : (plan.m1 + plan.m2 - 2) / 2;
+}
+
+static unsigned table_additions(struct plan plan)
+{
+    return plan.joint ? 2 : (plan.m1 - 1) / 2 + (plan.m2 - 1) / 2;
+}
+
+static unsigned table_doublings(struct plan plan)
+{
+    return (unsigned)(plan.m1 >= 3) + (unsigned)(plan.m2 >= 3);
+}
+
+static unsigned less_one(unsigned n)
+{
+    return n == 0 ? 0 : n - 1;
+}
+
+/* ---- the sheet ---- */
+
+/* Each of these writes bytes at p and returns the place behind them. */
+
+static uint8_t *put_decimal(uint8_t *p, unsigned n)
+{
+    if (n >= 10)
+        p = put_decimal(p, n / 10);
+    *p++ = (uint8_t)('0' + n % 10);
+    return p;
+}
+
+static uint8_t *put_digit(uint8_t *p, int digit)
+{
+    unsigned n = size_of(digit);
+
+    if (digit < 0)
+        *p++ = '-';
+    if (n >= 10)
+        *p++ = (uint8_t)('0' + n / 10);
+    *p++ = (uint8_t)('0' + n % 10);
+    return p;
+}
+
+static uint8_t *put_point(uint8_t *p, char letter, int a, int b)
+{
+    *p++ = (uint8_t)letter;
+    *p++ = ',';
+    p = put_digit(p, a);
+    *p++ = ',';
+    p = put_digit(p, b);
+    *p++ = '\n';
+    return p;
+}
+
+static uint8_t *put_letter(uint8_t *p, char letter)
+{
+    *p++ = (uint8_t)letter;
+    *p++ = '\n';
+    return p;
+}
+
+static uint8_t *put_scalar(uint8_t *p, const struct bits *b)
+{
+    static const char figures[] = "0123456789abcdef";
+    unsigned i = (b->length + 3) / 4;
+
+    if (i == 0)
+        *p++ = '0';
+    while (i-- > 0)
+        *p++ = (uint8_t)figures[b->word[i / 16] >> 4 * (i % 16) & 15];
+    return p;
+}
+
+static uint8_t *put_field(uint8_t *p, unsigned n)
+{
+    p = put_decimal(p, n);
+    *p++ = ',';
+    return p;
+}
+
+static uint8_t *put_header(uint8_t *p, struct plan plan, unsigned additions, unsigned doublings, const struct bits *k,
+                           const struct bits *l)
+{
+    *p++ = 'S';
+    *p++ = ',';
+    *p++ = plan.joint ? 'J' : 'I';
+    *p++ = ',';
+    p = put_field(p, plan.m1);
+    p = put_field(p, plan.m2);
+    p = put_field(p, slots_of(plan));
+    p = put_field(p, additions);
+    p = put_field(p, doublings);
+    p = put_scalar(p, k);
+    *p++ = ',';
+    p = put_scalar(p, l);
+    *p++ = '\n';
+    return p;
+}
+
+/* The T lines of a window: 2, then 3, 5 and so on to m. */
+static uint8_t *put_multiples(uint8_t *p, int of_q, unsigned m)
+{
+    if (m < 3)
+        return p;
+    p = of_q ? put_point(p, 'T', 0, 2) : put_point(p, 'T', 2, 0);
+    for (int n = 3; n <= (int)m; n += 2)
+        p = of_q ? put_point(p, 'T', 0, n) : put_point(p, 'T', n, 0);
+    return p;
+}
+
+static uint8_t *put_tables(uint8_t *p, struct plan plan)
+{
+    if (plan.joint) {
+        p = put_point(p, 'T', 1, 1);
+        return put_point(p, 'T', 1, -1);
+    }
+    p = put_multiples(p, 0, plan.m1);
+    return put_multiples(p, 1, plan.m2);
+}
+
+/* The steps of a place, the first one with the letter. */
+static uint8_t *put_steps(uint8_t *p, int joint, char letter, int a, int b)
+{
+    if (joint)
+        return a || b ? put_point(p, letter, a, b) : p;
+    if (a) {
+        p = put_point(p, letter, a, 0);
+        letter = 'A';
+    }
+    return b ? put_point(p, letter, 0, b) : p;
+}
+
+static uint8_t *put_places(uint8_t *p, int joint, const uint8_t *k_digits, const uint8_t *l_digits, unsigned places)
+{
+    char letter = 'L';
+
+    for (unsigned i = places; i-- > 0; letter = 'A') {
+        if (letter == 'A')
+            p = put_letter(p, 'D');
+        p = put_steps(p, joint, letter, (int8_t)k_digits[i], (int8_t)l_digits[i]);
+    }
+    return p;
+}
+
+/* The digits of both scalars by a plan, into places that hold 0. */
+static struct recoded recode_plan(struct plan plan, const struct bits *k, const struct bits *l, uint8_t *k_digits,
+                                  uint8_t *l_digits)
+{
+    struct recoded first, second;
+
+    if (plan.joint)
+        return recode_joint(k, l, k_digits, l_digits);
+    first = recode_row(k, plan.m1, k_digits);
+    second = recode_row(l, plan.m2, l_digits);
+    if (first.places < second.places)
+        first.places = second.places;
+    first.weight += second.weight;
+    return first;
+}
+
+/* Writes the sheet of a plan and returns its length. */
+static uint64_t write_sheet(struct plan plan, const struct bits *k, const struct bits *l, uint8_t *sheet)
+{
+    uint8_t k_digits[PLACES] = {0}, l_digits[PLACES] = {0};
+    struct recoded r = recode_plan(plan, k, l, k_digits, l_digits);
+    unsigned additions = table_additions(plan) + less_one(r.weight);
+    unsigned doublings = table_doublings(plan) + less_one(r.places);
+    uint8_t *p = put_header(sheet, plan, additions, doublings, k, l);
+
+    p = put_tables(p, plan);
+    p = put_places(p, plan.joint, k_digits, l_digits, r.places);
+    p = put_letter(p, 'E');
+    return (uint64_t)(p - sheet);
+}
+
+uint64_t peer_plan_j(const uint8_t *k, size_t kn, const uint8_t *l, size_t ln, uint8_t *sheet, size_t room)
+{
+    struct bits kb, lb;
+
+    if (!is_scalar(kn) || !is_scalar(ln))
+        return refusal(1, 0);
+    if (room < SHEET_BYTES)
+        return refusal(3, 0);
+    kb = bits_of(k, kn);
+    lb = bits_of(l, ln);
+    return write_sheet(plan_j(), &kb, &lb, sheet);
+}
+
+uint64_t peer_plan_i(const uint8_t *k, size_t kn, const uint8_t *l, size_t ln, uint32_t m1, uint32_t m2, uint8_t *sheet,
+                     size_t room)
+{
+    struct bits kb, lb;
+
+    if (!is_scalar(kn) || !is_scalar(ln))
+        return refusal(1, 0);
+    if (!is_window(m1) || !is_window(m2))
+        return refusal(2, 0);
+    if (room < SHEET_BYTES)
+        return refusal(3, 0);
+    kb = bits_of(k, kn);
+    lb = bits_of(l, ln);
+    return write_sheet(plan_i(m1, m2), &kb, &lb, sheet);
+}
+
+/* ---- the cheapest sheet ---- */
+
+/* Only the weights count here, so the places need not hold 0. */
+
+/* The weights of a scalar's rows, for the windows 1, 3, .. 31. */
+static void weigh_rows(const struct bits *b, unsigned *weights)
+{
+    uint8_t digits[PLACES];
+
+    for (unsigned i = 0; i < WINDOWS; i++)
+        weights[i] = recode_row(b, 2 * i + 1, digits).weight;
+}
+
+static unsigned weigh_joint(const struct bits *k, const struct bits *l)
+{
+    uint8_t k_digits[PLACES], l_digits[PLACES];
+
+    return recode_joint(k, l, k_digits, l_digits).weight;
+}
+
+/* Additions first, then slots. */
+static unsigned cost_of(struct plan plan, unsigned weight)
+{
+    return (table_additions(plan) + less_one(weight)) * 64 + slots_of(plan);
+}
+
+/* The first of the least plans within the limit: J, then the plans I by m1. */
+static struct plan choose(const unsigned *k_weights, const unsigned *l_weights, unsigned joint, unsigned limit)
+{
+    struct plan best = plan_i(1, 1);
+    unsigned least = cost_of(best, k_weights[0] + l_weights[0]);
+
+    if (JOINT_SLOTS <= limit && cost_of(plan_j(), joint) < least) {
+        best = plan_j();
+        least = cost_of(best, joint);
+    }
+    for (unsigned i = 0; i < WINDOWS && i <= limit; i++)
+        for (unsigned j = 0; j < WINDOWS && i + j <= limit; j++) {
+            struct plan plan = plan_i(2 * i + 1, 2 * j + 1);
+            unsigned cost = cost_of(plan, k_weights[i] + l_weights[j]);
+
+            if (cost < least) {
+                best = plan;
+                least = cost;
+            }
+        }
+    return best;
+}
+
+uint64_t peer_cheapest(const uint8_t *k, size_t kn, const uint8_t *l, size_t ln, uint32_t limit, uint8_t *sheet, size_t room)
+{
+    unsigned k_weights[WINDOWS], l_weights[WINDOWS];
+    struct bits kb, lb;
+
+    if (!is_scalar(kn) || !is_scalar(ln))
+        return refusal(1, 0);
+    if (limit > MOST_SLOTS)
+        return refusal(4, 0);
+    if (room < SHEET_BYTES)
+        return refusal(3, 0);
+    kb = bits_of(k, kn);
+    lb = bits_of(l, ln);
+    weigh_rows(&kb, k_weights);
+    weigh_rows(&lb, l_weights);
+    return write_sheet(choose(k_weights, l_weights, weigh_joint(&kb, &lb), limit), &kb, &lb, sheet);
+}
+
+/* ---- the reader ---- */
+
+/* The place on the sheet, the line there, and the first line that misses each of the questions 7 to 9; 0 where none does. */
+struct reader {
+    const uint8_t *at, *end;
+    unsigned line, off_plan, disallowed, excess;
+    struct plan plan;
+    unsigned slots, additions, doublings;
+    uint64_t k[WORDS], l[WORDS];
+    unsigned tables, turn, doubles, counted_additions, counted_doublings;
+    uint64_t p[WORDS], q[WORDS];
+};
+
+struct point {
+    int a, b;
+};
+
+/* Each of these takes what is spelled at the place, or answers 0. */
+
+static int take_byte(struct reader *r, char byte)
+{
+    if (r->at == r->end || *r->at != (uint8_t)byte)
+        return 0;
+    r->at++;
+    return 1;
+}
+
+static int take_decimal(struct reader *r, int most, unsigned *n)
+{
+    const uint8_t *start = r->at;
+
+    *n = 0;
+    while (r->at < r->end && r->at - start < most && '0' <= *r->at && *r->at <= '9')
+        *n = 10 * *n + (*r->at++ - (unsigned)'0');
+    return r->at > start && (r->at - start == 1 || *start != '0');
+}
+
+static int take_digit(struct reader *r, int *digit)
+{
+    int negative = take_byte(r, '-');
+    unsigned n;
+
+    if (!take_decimal(r, 2, &n) || (negative && n == 0))
+        return 0;
+    *digit = negative ? -(int)n : (int)n;
+    return 1;
+}
+
+/* A point behind a letter, and the end of the line. */
+static int take_point(struct reader *r, struct point *t)
+{
+    return take_byte(r, ',') && take_digit(r, &t->a) && take_byte(r, ',') && take_digit(r, &t->b) && take_byte(r, '\n');
+}
+
+/* The figure of a byte: 0 to 9, then a to f; 16 where there is none. */
+static unsigned figure_of(uint8_t byte)
+{
+    unsigned figure = byte - (unsigned)'0', letter = byte - (unsigned)'a';
+
+    figure = figure < 10 ? figure : 16;
+    return letter < 6 ? letter + 10 : figure;
+}
+
+static int take_scalar(struct reader *r, uint64_t *word)
+{
+    uint8_t figures[MOST_FIGURES];
+    unsigned n = 0, figure;
+
+    while (r->at < r->end && n < MOST_FIGURES && (figure = figure_of(*r->at)) < 16) {
+        figures[n++] = (uint8_t)figure;
+        r->at++;
+    }
+    if (n == 0 || (n > 1 && figures[0] == 0))
+        return 0;
+    for (unsigned i = 0; i < n; i++)
+        word[i / 16] |= (uint64_t)figures[n - 1 - i] << 4 * (i % 16);
+    return 1;
+}
+
+static int take_kind(struct reader *r)
+{
+    r->plan.joint = take_byte(r, 'J');
+    return r->plan.joint || take_byte(r, 'I');
+}
+
+static int take_field(struct reader *r, unsigned *n)
+{
+    return take_decimal(r, 4, n) && take_byte(r, ',');
+}
+
+static int take_header(struct reader *r)
+{
+    return take_byte(r, 'S') && take_byte(r, ',') && take_kind(r) && take_byte(r, ',') && take_field(r, &r->plan.m1)
+        && take_field(r, &r->plan.m2) && take_field(r, &r->slots) && take_field(r, &r->additions)
+        && take_field(r, &r->doublings) && take_scalar(r, r->k) && take_byte(r, ',') && take_scalar(r, r->l)
+        && take_byte(r, '\n');
+}
+
+/* The first line that misses a question. */
+static void miss(const struct reader *r, unsigned *line)
+{
+    if (*line == 0)
+        *line = r->line;
+}
+
+static int is_on_plan(const struct reader *r)
+{
+    if (r->plan.joint)
+        return r->plan.m1 == 1 && r->plan.m2 == 1 && r->slots == JOINT_SLOTS;
+    return is_window(r->plan.m1) && is_window(r->plan.m2) && r->slots == slots_of(r->plan);
+}
+
+static unsigned multiples_of(unsigned m)
+{
+    return m < 3 ? 0 : (m - 1) / 2 + 1;
+}
+
+static unsigned table_lines(struct plan plan)
+{
+    return plan.joint ? 2 : multiples_of(plan.m1) + multiples_of(plan.m2);
+}
+
+/* The multiple on a window's T line with n before it. */
+static int multiple(unsigned n)
+{
+    return n == 0 ? 2 : (int)(2 * n + 1);
+}
+
+/* Whether t is the plan's T line with n before it. */
+static int is_table(struct plan plan, unsigned n, struct point t)
+{
+    unsigned first = multiples_of(plan.m1);
+
+    if (n >= table_lines(plan))
+        return 0;
+    if (plan.joint)
+        return t.a == 1 && t.b == (n == 0 ? 1 : -1);
+    return n < first ? t.a == multiple(n) && t.b == 0 : t.a == 0 && t.b == multiple(n - first);
+}
+
+static void table(struct reader *r, struct point t)
+{
+    if (!is_table(r->plan, r->tables, t))
+        miss(r, &r->off_plan);
+    r->tables++;
+    if ((t.a == 2 && t.b == 0) || (t.a == 0 && t.b == 2))
+        r->counted_doublings++;
+    else
+        r->counted_additions++;
+}
+
+static int is_digit(int digit, unsigned m)
+{
+    return digit % 2 != 0 && digit <= (int)m && -digit <= (int)m;
+}
+
+/* The turn of a step in its place: 1 for P, 2 for Q or a joint one, 0 for no step of the plan. */
+static unsigned turn_of(struct plan plan, struct point t)
+{
+    if (plan.joint)
+        return -1 <= t.a && t.a <= 1 && -1 <= t.b && t.b <= 1 && (t.a || t.b) ? 2 : 0;
+    if (t.b == 0)
+        return is_digit(t.a, plan.m1) ? 1 : 0;
+    return t.a == 0 && is_digit(t.b, plan.m2) ? 2 : 0;
+}
+
+/* x + digit, in two's complement. */
+static void add(uint64_t *x, int digit)
+{
+    uint64_t sign = digit < 0 ? UINT64_MAX : 0, carry;
+
+    x[0] += (uint64_t)digit;
+    carry = x[0] < (uint64_t)digit;
+    for (int i = 1; i < WORDS && carry != (sign & 1); i++) {
+        x[i] += sign + carry;
+        carry = sign ? x[i] != UINT64_MAX : x[i] == 0;
+    }
+}
+
+/* 2x */
+static void twice(uint64_t *x)
+{
+    for (int i = WORDS - 1; i > 0; i--)
+        x[i] = x[i] << 1 | x[i - 1] >> 63;
+    x[0] <<= 1;
+}
+
+static void step(struct reader *r, struct point t)
+{
+    unsigned turn = turn_of(r->plan, t);
+
+    if (turn <= r->turn)
+        miss(r, &r->disallowed);
+    r->turn = turn;
+    add(r->p, t.a);
+    add(r->q, t.b);
+}
+
+static void lower(struct reader *r)
+{
+    r->turn = 0;
+    r->counted_doublings++;
+    if (++r->doubles > MOST_DOUBLES)
+        miss(r, &r->excess);
+    twice(r->p);
+    twice(r->q);
+}
+
+static int take_tables(struct reader *r)
+{
+    struct point t;
+
+    for (; take_byte(r, 'T'); r->line++) {
+        if (!take_point(r, &t))
+            return 0;
+        table(r, t);
+    }
+    if (r->tables < table_lines(r->plan))
+        miss(r, &r->off_plan);
+    return 1;
+}
+
+static int take_load(struct reader *r)
+{
+    struct point t;
+
+    if (!take_point(r, &t))
+        return 0;
+    step(r, t);
+    r->line++;
+    return 1;
+}
+
+static int take_move(struct reader *r)
+{
+    struct point t;
+
+    if (take_byte(r, 'D')) {
+        if (!take_byte(r, '\n'))
+            return 0;
+        lower(r);
+    } else {
+        if (!take_byte(r, 'A') || !take_point(r, &t))
+            return 0;
+        step(r, t);
+        r->counted_additions++;
+    }
+    r->line++;
+    return 1;
+}
+
+static int take_steps(struct reader *r)
+{
+    if (!take_byte(r, 'L'))
+        return 1;
+    if (!take_load(r))
+        return 0;
+    while (r->at < r->end && (*r->at == 'D' || *r->at == 'A'))
+        if (!take_move(r))
+            return 0;
+    return 1;
+}
+
+static int take_end(struct reader *r)
+{
+    if (!take_byte(r, 'E') || !take_byte(r, '\n'))
+        return 0;
+    r->line++;
+    return r->at == r->end;
+}
+
+/* Question 6: the lines of the sheet, of which `line` is the first that is out of place. */
+static int take_sheet(struct reader *r)
+{
+    if (!take_header(r))
+        return 0;
+    if (!is_on_plan(r))
+        miss(r, &r->off_plan);
+    r->line++;
+    return take_tables(r) && take_steps(r) && take_end(r);
+}
+
+uint64_t peer_read(const uint8_t *sheet, size_t n)
+{
+    struct reader r = {.at = sheet, .end = sheet + n, .line = 1};
+
+    if (n > SHEET_BYTES)
+        return refusal(5, 0);
+    if (!take_sheet(&r))
+        return refusal(6, r.line);
+    if (r.off_plan)
+        return refusal(7, r.off_plan);
+    if (r.disallowed)
+        return refusal(8, r.disallowed);
+    if (r.excess)
+        return refusal(9, r.excess);
+    if (r.additions != r.counted_additions || r.doublings != r.counted_doublings)
+        return refusal(10, 1);
+    if (memcmp(r.p, r.k, sizeof r.p) != 0 || memcmp(r.q, r.l, sizeof r.q) != 0)
+        return refusal(11, 1);
+    return 0;
+}

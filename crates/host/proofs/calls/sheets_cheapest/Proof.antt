@@ -1,0 +1,36 @@
+-- `sheets_cheapest` meets its contract: it tells what `cheapest` answers, whose length fits the low half.
+use mathlib.Core.Path.{ap, _∙_}
+use native.Mathlib.Omega.{arith}
+use lib.ListN as ListN
+use Rattle.writer.specs.Call.{length}
+use Rattle.host.specs.Lengths.{cheapest-short}
+use Rattle.host.specs.Told.{toldSheet}
+use borrow.Author.Needs.{needs}
+use Rattle.host.proofs.calls.sheets_cheapest.Statement.{statement}
+use Rattle.host.proofs.calls.sheets_cheapest.Tie as tie
+
+cheapest-requires : tie.Need-cheapest-requires
+cheapest-requires c κs = search needs
+
+written-requires : tie.Need-written-requires
+written-requires c κs =
+    let w = c .before .before in
+    let s = w .before .before .before in
+    let a = s .before .before .args in
+    omega (
+      arith,
+      ap length (w .cheapest .ensures .0),
+      cheapest-short (a .k .now) (a .l .now) (λ i. s .before .shared-slice-known .given i .fits) (λ i. s .shared-slice-known2 .given i .fits) (a .limit)
+          (ListN.length (a .sheet .now)),
+    )
+
+same-length : tie.Need-same-length
+same-length c = search needs
+
+returns : tie.Need-returns
+returns c =
+    let w = c .before .before .before in
+    (c .written .ensures ∙ ap toldSheet (w .cheapest .ensures .0), w .cheapest .ensures .1 .0)
+
+pub sheets-cheapest-spec : {M : Type 1} → statement M
+sheets-cheapest-spec = tie.close (tie.spec cheapest-requires written-requires same-length returns)

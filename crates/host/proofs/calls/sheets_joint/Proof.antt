@@ -1,0 +1,40 @@
+-- `sheets_joint` meets its contract: it tells what `joint` answers, whose length fits the low half.
+use mathlib.Core.Path.{ap, _∙_}
+use native.Mathlib.Omega.{arith}
+use lib.ListN as ListN
+use Rattle.recode.specs.Call.{length}
+use Rattle.host.specs.Lengths.{joint-short}
+use Rattle.host.specs.Told.{toldRecoded}
+use borrow.Author.Needs.{needs}
+use Rattle.host.proofs.calls.sheets_joint.Statement.{statement}
+use Rattle.host.proofs.calls.sheets_joint.Tie as tie
+
+joint-requires : tie.Need-joint-requires
+joint-requires c κs = search needs
+
+recoded-requires : tie.Need-recoded-requires
+recoded-requires c κs =
+    let w = c .before .before .before .before in
+    let s = w .before .before .before .before .before in
+    let a = s .before .before .args in
+    omega (
+      arith,
+      ap length (w .joint .ensures .0),
+      joint-short (a .k .now) (a .l .now) (ListN.length (a .k-digits .now)) (ListN.length (a .l-digits .now))
+          (λ i. s .before .shared-slice-known .given i .fits) (λ i. s .shared-slice-known2 .given i .fits),
+    )
+
+same-length : tie.Need-same-length
+same-length c = search needs
+
+same-length-2 : tie.Need-same-length-2
+same-length-2 c = search needs
+
+returns : tie.Need-returns
+returns c =
+    let w = c .before .before .before .before .before in
+    (c .recoded .ensures ∙ ap toldRecoded (w .joint .ensures .0), w .joint .ensures .1)
+
+pub sheets-joint-spec : {M : Type 1} → statement M
+sheets-joint-spec =
+    tie.close (tie.spec joint-requires recoded-requires same-length same-length-2 returns)

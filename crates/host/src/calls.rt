@@ -1,0 +1,64 @@
+ghost use mathlib.Core.Path.{_≡_};
+ghost use lib.ListN.{length};
+ghost use Rattle.digits.specs.Limits.{card};
+ghost use Rattle.digits.specs.Two.{P, Q};
+ghost use Rattle.recode.specs.Call.{rowAnswer, rowBuffer, jointAnswer, jointBuffer};
+ghost use Rattle.writer.specs.Call.{jAnswer, jBuffer, iAnswer, iBuffer};
+ghost use Rattle.chooser.specs.Call.{cheapestAnswer, cheapestBuffer};
+ghost use Rattle.sheet.specs.Answer.{answer};
+ghost use Rattle.reader.specs.Judgement.{judgement};
+ghost use Rattle.host.specs.Told.{toldRecoded, toldSheet, toldJudgement};
+
+// The row of a scalar for the window m.
+#[no_mangle]
+pub extern "C" fn sheets_row(scalar: &[u8], m: u32, digits: &mut [u8]) -> u64
+    ensures answer { λ r. ⌜ r ≡ toldRecoded (rowAnswer card (now (scalar .entry)) m (length (now (digits .entry)))) ⌝ }
+    ensures buffer { λ _. ⌜ now (digits .exit) ≡ rowBuffer card (now (scalar .entry)) m (now (digits .entry)) ⌝ }
+{
+    crate::told::recoded(recode::row(scalar, m, digits))
+}
+
+// The joint sparse form of two scalars.
+#[no_mangle]
+pub extern "C" fn sheets_joint(k: &[u8], l: &[u8], k_digits: &mut [u8], l_digits: &mut [u8]) -> u64
+    ensures answer { λ r. ⌜ r ≡ toldRecoded (jointAnswer card (now (k .entry)) (now (l .entry)) (length (now («k_digits» .entry))) (length (now («l_digits» .entry)))) ⌝ }
+    ensures first { λ _. ⌜ now («k_digits» .exit) ≡ jointBuffer card P (now (k .entry)) (now (l .entry)) (now («k_digits» .entry)) (now («l_digits» .entry)) ⌝ }
+    ensures second { λ _. ⌜ now («l_digits» .exit) ≡ jointBuffer card Q (now (k .entry)) (now (l .entry)) (now («k_digits» .entry)) (now («l_digits» .entry)) ⌝ }
+{
+    crate::told::recoded(recode::joint(k, l, k_digits, l_digits))
+}
+
+// The sheet of plan J.
+#[no_mangle]
+pub extern "C" fn sheets_plan_j(k: &[u8], l: &[u8], sheet: &mut [u8]) -> u64
+    ensures answer { λ r. ⌜ r ≡ toldSheet (jAnswer card (now (k .entry)) (now (l .entry)) (length (now (sheet .entry)))) ⌝ }
+    ensures buffer { λ _. ⌜ now (sheet .exit) ≡ jBuffer card (now (k .entry)) (now (l .entry)) (now (sheet .entry)) ⌝ }
+{
+    crate::told::written(writer::plan_j(k, l, sheet))
+}
+
+// The sheet of plan I with the windows m1 for P and m2 for Q.
+#[no_mangle]
+pub extern "C" fn sheets_plan_i(k: &[u8], l: &[u8], m1: u32, m2: u32, sheet: &mut [u8]) -> u64
+    ensures answer { λ r. ⌜ r ≡ toldSheet (iAnswer card (now (k .entry)) (now (l .entry)) m1 m2 (length (now (sheet .entry)))) ⌝ }
+    ensures buffer { λ _. ⌜ now (sheet .exit) ≡ iBuffer card (now (k .entry)) (now (l .entry)) m1 m2 (now (sheet .entry)) ⌝ }
+{
+    crate::told::written(writer::plan_i(k, l, m1, m2, sheet))
+}
+
+// The cheapest sheet for k and l that needs no more slots than the limit.
+#[no_mangle]
+pub extern "C" fn sheets_cheapest(k: &[u8], l: &[u8], limit: u32, sheet: &mut [u8]) -> u64
+    ensures answer { λ r. ⌜ r ≡ toldSheet (cheapestAnswer card (now (k .entry)) (now (l .entry)) limit (length (now (sheet .entry)))) ⌝ }
+    ensures buffer { λ _. ⌜ now (sheet .exit) ≡ cheapestBuffer card (now (k .entry)) (now (l .entry)) limit (now (sheet .entry)) ⌝ }
+{
+    crate::told::written(chooser::cheapest(k, l, limit, sheet))
+}
+
+// Reads a sheet: accepted, or the first question that it misses.
+#[no_mangle]
+pub extern "C" fn sheets_read(sheet: &[u8]) -> u64
+    ensures answer { λ r. ⌜ r ≡ toldJudgement (judgement (answer card (now (sheet .entry)))) ⌝ }
+{
+    crate::told::judged(reader::read(sheet))
+}

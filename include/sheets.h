@@ -1,0 +1,88 @@
+/*
+ * Double-and-add sheets for kP + lQ: the calls for a host program in C. Link with libhost.a, which `rt staticlib host` writes for
+ * x86-64 Linux.
+ *
+ * Scalars are unsigned numbers of 1 to 66 bytes, the most significant byte first; leading zero bytes and zero are allowed.
+ * Digits are one byte each in two's complement, the least significant place (place 0) first; a digit buffer may be read as int8_t.
+ * Sheets are ASCII lines, each ended by a line feed, with no byte 0 behind the last.
+ *
+ * Every call returns 64 bits. The high half, sheets_number, is the number of the question missed, 0 where none is. The low half,
+ * sheets_length, is the length written, 0 where a question is missed. For sheets_read it is the line at fault, sheets_line, 0 where the
+ * sheet is accepted. Questions are asked in the order given at each call, and the first one missed is the answer:
+ *
+ *    1   has each scalar 1 to 66 bytes?
+ *    2   is each window odd, 1 to 31?
+ *    3   has each buffer room: a digit buffer 8 places for each byte of the scalar, of the longer one for two, and one more
+ *        (SHEETS_PLACES); a sheet buffer 16,384 bytes (SHEETS_BYTES)?
+ *    4   is the slot limit at most 30?
+ *
+ * A refusal changes no byte of any buffer. What is handed in as const is only read. Nothing is kept between calls, and nothing is
+ * allocated.
+ *
+ * What the caller owes: each pointer has as many bytes behind it as the length after it says, and a buffer overlaps neither another
+ * buffer nor an input. With length 0 a pointer may be NULL.
+ */
+#ifndef SHEETS_H
+#define SHEETS_H
+
+#include <stddef.h>
+#include <stdint.h>
+
+#ifdef __cplusplus
+extern "C" {
+#endif
+
+/* The places that a digit buffer needs for a scalar of so many bytes, and the bytes that a sheet buffer needs. */
+#define SHEETS_PLACES(bytes) (8 * (size_t)(bytes) + 1)
+#define SHEETS_BYTES 16384
+
+/*
+ * The row of a scalar for the window m. Questions 1, 2, 3. The length is the number of places, at most 529; the places above it hold
+ * 0, up to the end of the buffer.
+ */
+uint64_t sheets_row(const uint8_t *scalar, size_t n, uint32_t m, uint8_t *digits, size_t places);
+
+/*
+ * The joint sparse form of k and l, a row into each buffer. Questions 1, 3. The length is the number of columns, at most 529; in both
+ * buffers the places above it hold 0.
+ */
+uint64_t sheets_joint(const uint8_t *k, size_t kn, const uint8_t *l, size_t ln, uint8_t *k_digits, size_t k_places, uint8_t *l_digits,
+                      size_t l_places);
+
+/*
+ * The sheet of plan J. Questions 1, 3. The length is the sheet's, in bytes, at most 16,384; the bytes behind it stay as lent. So too
+ * for the next two calls.
+ */
+uint64_t sheets_plan_j(const uint8_t *k, size_t kn, const uint8_t *l, size_t ln, uint8_t *sheet, size_t room);
+
+/* The sheet of plan I with the windows m1 for P and m2 for Q. Questions 1, 2, 3. */
+uint64_t sheets_plan_i(const uint8_t *k, size_t kn, const uint8_t *l, size_t ln, uint32_t m1, uint32_t m2, uint8_t *sheet, size_t room);
+
+/* The cheapest sheet over plan J and all plans I that need no more slots than the limit. Questions 1, 4, 3. */
+uint64_t sheets_cheapest(const uint8_t *k, size_t kn, const uint8_t *l, size_t ln, uint32_t limit, uint8_t *sheet, size_t room);
+
+/*
+ * Judges a sheet, whatever its n bytes are: 0 if it is accepted for the scalars of its header; else the number of the question missed
+ * and the line at fault, counted from 1:
+ *
+ *    5   is it at most 16,384 bytes? Line 0.
+ *    6   is each line spelled and placed as it must be? The first that is not, one past the last where a line is missing.
+ *    7   are the windows, the slots and the T lines the plan's? Line 1, or the first T line that differs, or the line after them where
+ *        one is missing.
+ *    8   is each step allowed by the plan? Its line.
+ *    9   are there at most 528 D lines? The 529th.
+ *   10   are both counts true? Line 1.
+ *   11   is the result (k, l)? Line 1.
+ */
+uint64_t sheets_read(const uint8_t *sheet, size_t n);
+
+/* The two halves of an answer. */
+static inline uint32_t sheets_number(uint64_t answer) { return (uint32_t)(answer >> 32); }
+static inline uint32_t sheets_length(uint64_t answer) { return (uint32_t)(answer & 0xffffffffu); }
+static inline uint32_t sheets_line(uint64_t answer) { return (uint32_t)(answer & 0xffffffffu); }
+
+#ifdef __cplusplus
+}
+#endif
+
+#endif

@@ -1,0 +1,177 @@
+//! Signed whole numbers of 640 bits in two's complement: room for every scalar (528 bits), every
+//! remainder of a recoding, and every accumulator that 528 doublings can reach.
+
+const WORDS: usize = 10;
+
+/// A number; the least significant word is first.
+#[derive(Clone, Copy, PartialEq, Eq, Debug)]
+pub struct Big([u64; WORDS]);
+
+impl Big {
+    pub const ZERO: Big = Big([0; WORDS]);
+
+    /// The number in unsigned bytes, most significant first.
+    pub fn from_bytes(bytes: &[u8]) -> Big {
+        let mut words = [0; WORDS];
+        for (place, &byte) in bytes.iter().rev().enumerate() {
+            words[place / 8] |= u64::from(byte) << (place % 8 * 8);
+        }
+        Big(words)
+    }
+
+    /// The number in hexadecimal figures, which the caller has found well spelled.
+    pub fn from_hex(figures: &[u8]) -> Big {
+        let mut words = [0; WORDS];
+        for (place, &figure) in figures.iter().rev().enumerate() {
+            let value = char::from(figure).to_digit(16).expect("a hexadecimal figure");
+            words[place / 16] |= u64::from(value) << (place % 16 * 4);
+        }
+        Big(words)
+    }
+
+    /// Lower-case hexadecimal figures of a number not below zero, with no leading zero.
+    pub fn to_hex(self) -> String {
+        let all: String = self.0.iter().rev().map(|word| format!("{word:016x}")).collect();
+        let figures = all.trim_start_matches('0');
+        if figures.is_empty() { "0" } else { figures }.to_string()
+    }
+
+    pub fn is_zero(self) -> bool {
+        self == Big::ZERO
+    }
+
+    pub fn is_odd(self) -> bool {
+        self.0[0] & 1 == 1
+    }
+
+    /// The remainder by 2^count, count below 63.
+    pub fn remainder(self, count: u32) -> i64 {
+        (self.0[0] & ((1 << count) - 1)) as i64
+    }
+
+    /// The place of the top one bit plus 1 of a number not below zero, and 0 for zero.
+    pub fn bit_length(self) -> usize {
+        let top = self.0.iter().rposition(|&word| word != 0);
+        top.map_or(0, |i| 64 * i + 64 - self.0[i].leading_zeros() as usize)
+    }
+
+    /// The number itself where it lies within −bound to bound.
+    pub fn within(self, bound: i64) -> Option<i64> {
+        let low = self.0[0] as i64;
+        (Big::from(low) == self && -bound <= low && low <= bound).then_some(low)
+    }
+
+    #[must_use]
+    pub fn plus(self, small: i64) -> Big {
+        self.plus_at(small, 0)
+    }
+
+    /// This number and small × 2^(64 × at).
+    #[must_use]
+    pub fn plus_at(self, small: i64, at: usize) -> Big {
+        let mut words = self.0;
+        let mut carry = false;
+        for (word, other) in words[at..].iter_mut().zip(Big::from(small).0) {
+            let (sum, first) = word.overflowing_add(other);
+            let (sum, second) = sum.overflowing_add(u64::from(carry));
+            *word = sum;
+            carry = first || second;
+        }
+        Big(words)
+    }
+
+    #[must_use]
+    pub fn negated(self) -> Big {
+        Big(self.0.map(|word| !word)).plus(1)
+    }
+
+    #[must_use]
+    pub fn doubled(self) -> Big {
+        let mut words = self.0;
+        for i in (1..WORDS).rev() {
+            words[i] = words[i] << 1 | words[i - 1] >> 63;
+        }
+        words[0] <<= 1;
+        Big(words)
+    }
+
+    /// Half of an even number.
+    #[must_use]
+    pub fn halved(self) -> Big {
+        debug_assert!(!self.is_odd());
+        let mut words = self.0;
+        for i in 0..WORDS - 1 {
+            words[i] = words[i] >> 1 | words[i + 1] << 63;
+        }
+        words[WORDS - 1] = (words[WORDS - 1] as i64 >> 1) as u64;
+        Big(words)
+    }
+
+    /// What a recoding keeps of this remainder once its lowest place has taken the digit.
+    #[must_use]
+    pub fn after(self, digit: i8) -> Big {
+        self.plus(-i64::from(digit)).halved()
+    }
+}
+
+impl From<i64> for Big {
+    fn from(small: i64) -> Big {
+        let mut words = [(small >> 63) as u64; WORDS];
+        words[0] = small as u64;
+        Big(words)
+    }
+}
+
+#[cfg(test)]
+mod tests {
+    use super::*;
+
+    #[test]
+    fn bytes_and_figures_agree() {
+        let bytes = [0, 0x12, 0x34, 0x56, 0x78, 0x9a, 0xbc, 0xde, 0xf0, 0x0f];
+        assert_eq!(Big::from_bytes(&bytes).to_hex(), "123456789abcdef00f");
+        assert_eq!(Big::from_hex(b"123456789abcdef00f"), Big::from_bytes(&bytes));
+        assert_eq!(Big::ZERO.to_hex(), "0");
+        assert_eq!(Big::from_bytes(&[255; 66]).to_hex(), "f".repeat(132));
+    }
+
+    #[test]
+    fn small_sums_carry_and_borrow() {
+        let top = Big::from_bytes(&[255; 66]);
+        assert_eq!(top.plus(1).bit_length(), 529);
+        assert_eq!(top.plus(1).plus(-1), top);
+        assert_eq!(Big::ZERO.plus(-5).plus(3), Big::from(-2));
+        assert_eq!(top.plus_at(1 << 16, 8).plus_at(-(1 << 16), 8), top);
+        assert_eq!(Big::ZERO.plus_at(1 << 16, 8), top.plus(1));
+    }
+
+    #[test]
+    fn negation_changes_the_sign() {
+        let top = Big::from_bytes(&[255; 66]);
+        assert_eq!(Big::from(5).negated(), Big::from(-5));
+        assert_eq!(Big::ZERO.negated(), Big::ZERO);
+        assert_eq!(top.negated().negated(), top);
+    }
+
+    #[test]
+    fn doubling_undoes_halving() {
+        for small in [-62, -2, 0, 2, 4096] {
+            assert_eq!(Big::from(small).halved(), Big::from(small / 2));
+            assert_eq!(Big::from(small).halved().doubled(), Big::from(small));
+        }
+    }
+
+    #[test]
+    fn bit_lengths() {
+        assert_eq!(Big::ZERO.bit_length(), 0);
+        assert_eq!(Big::from(1).bit_length(), 1);
+        assert_eq!(Big::from_bytes(&[1, 0, 0, 0, 0, 0, 0, 0, 0]).bit_length(), 65);
+    }
+
+    #[test]
+    fn only_small_numbers_are_within() {
+        assert_eq!(Big::from(-31).within(31), Some(-31));
+        assert_eq!(Big::from(32).within(31), None);
+        assert_eq!(Big::from_bytes(&[1, 0, 0, 0, 0, 0, 0, 0, 5]).within(31), None);
+    }
+}

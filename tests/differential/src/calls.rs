@@ -1,0 +1,277 @@
+//! The six calls: their questions in order, their answers, and how a call is printed and read
+//! back.
+
+use crate::cheapest::Weights;
+use crate::plan::Plan;
+use crate::reader::{self, Refusal, LONGEST_SHEET};
+use crate::scalars::{self, MOST_BYTES};
+use crate::sheet::Sheet;
+use crate::{joint, row};
+use std::fmt;
+
+/// A call with all that is lent to it, but for what its buffers hold before.
+#[derive(Clone, PartialEq, Eq, Debug)]
+pub enum Call {
+    Row { scalar: Vec<u8>, m: u32, places: usize },
+    Joint { k: Vec<u8>, l: Vec<u8>, k_places: usize, l_places: usize },
+    PlanJ { k: Vec<u8>, l: Vec<u8>, room: usize },
+    PlanI { k: Vec<u8>, l: Vec<u8>, m1: u32, m2: u32, room: usize },
+    Cheapest { k: Vec<u8>, l: Vec<u8>, limit: u32, room: usize },
+    Read { sheet: Vec<u8> },
+}
+
+/// The answer to a call.
+#[derive(Clone, PartialEq, Eq, Debug)]
+pub enum Answer {
+    /// The number of the question missed; the line is 0 for all calls but the reader.
+    Refused(Refusal),
+    /// One row.
+    Row(Vec<i8>),
+    /// Two rows over the same places.
+    Columns(Vec<i8>, Vec<i8>),
+    Sheet(Vec<u8>),
+    /// The reader accepts.
+    Accepted,
+}
+
+impl Answer {
+    pub fn refused(number: u32, line: usize) -> Answer {
+        Answer::Refused(Refusal { number, line })
+    }
+
+    /// The number that the C call returns: the question missed in the high 32 bits; in the low
+    /// ones the length, or the line.
+    pub fn code(&self) -> u64 {
+        match self {
+            Answer::Refused(Refusal { number, line }) => u64::from(*number) << 32 | *line as u64,
+            Answer::Row(digits) | Answer::Columns(digits, _) => digits.len() as u64,
+            Answer::Sheet(bytes) => bytes.len() as u64,
+            Answer::Accepted => 0,
+        }
+    }
+
+    /// What the buffers hold after the call, given what they held before.
+    pub fn leave_in(&self, buffers: &mut [Vec<u8>]) {
+        match (self, buffers) {
+            (Answer::Row(digits), [buffer]) => leave_digits(digits, buffer),
+            (Answer::Columns(k_row, l_row), [k_buffer, l_buffer]) => {
+                leave_digits(k_row, k_buffer);
+                leave_digits(l_row, l_buffer);
+            }
+            (Answer::Sheet(bytes), [buffer]) => buffer[..bytes.len()].copy_from_slice(bytes),
+            (Answer::Refused(_) | Answer::Accepted, _) => {}
+            _ => unreachable!("every answer has its own number of buffers"),
+        }
+    }
+}
+
+/// The digits in two's complement; the unused places hold 0.
+fn leave_digits(digits: &[i8], buffer: &mut [u8]) {
+    let (used, unused) = buffer.split_at_mut(digits.len());
+    for (byte, &digit) in used.iter_mut().zip(digits) {
+        *byte = digit as u8;
+    }
+    unused.fill(0);
+}
+
+impl Call {
+    /// The reference's answer.
+    pub fn answer(&self) -> Answer {
+        if let Some(number) = self.first_question_missed() {
+            return Answer::refused(number, 0);
+        }
+        match self {
+            Call::Row { scalar, m, .. } => {
+                Answer::Row(row::recode(scalars::value(scalar), *m as u8))
+            }
+            Call::Joint { k, l, .. } => {
+                let columns = joint::recode(scalars::value(k), scalars::value(l));
+                let (k_row, l_row) = joint::rows(&columns);
+                Answer::Columns(k_row, l_row)
+            }
+            Call::PlanJ { k, l, .. } => sheet(Plan::Joint, k, l),
+            Call::PlanI { k, l, m1, m2, .. } => {
+                sheet(Plan::Interleaved { m1: *m1 as u8, m2: *m2 as u8 }, k, l)
+            }
+            Call::Cheapest { k, l, limit, .. } => {
+                let weights = Weights::of(scalars::value(k), scalars::value(l));
+                Answer::Sheet(weights.cheapest_sheet(*limit as usize).to_bytes())
+            }
+            Call::Read { sheet } => match reader::read(sheet) {
+                Ok(()) => Answer::Accepted,
+                Err(refusal) => Answer::Refused(refusal),
+            },
+        }
+    }
+
+    /// The number of the first question missed by a call other than the reader.
+    fn first_question_missed(&self) -> Option<u32> {
+        let questions = match self {
+            Call::Row { scalar, m, places } => {
+                vec![(has_length(scalar), 1), (is_window(*m), 2), (*places > 8 * scalar.len(), 3)]
+            }
+            Call::Joint { k, l, k_places, l_places } => {
+                let bytes = k.len().max(l.len());
+                vec![
+                    (has_length(k) && has_length(l), 1),
+                    (*k_places > 8 * bytes && *l_places > 8 * bytes, 3),
+                ]
+            }
+            Call::PlanJ { k, l, room } => {
+                vec![(has_length(k) && has_length(l), 1), (*room >= LONGEST_SHEET, 3)]
+            }
+            Call::PlanI { k, l, m1, m2, room } => vec![
+                (has_length(k) && has_length(l), 1),
+                (is_window(*m1) && is_window(*m2), 2),
+                (*room >= LONGEST_SHEET, 3),
+            ],
+            Call::Cheapest { k, l, limit, room } => vec![
+                (has_length(k) && has_length(l), 1),
+                (*limit <= 30, 4),
+                (*room >= LONGEST_SHEET, 3),
+            ],
+            Call::Read { .. } => Vec::new(),
+        };
+        questions.into_iter().find(|(met, _)| !met).map(|(_, number)| number)
+    }
+
+    /// The bytes that the call only reads.
+    pub fn inputs(&self) -> Vec<&[u8]> {
+        match self {
+            Call::Row { scalar, .. } => vec![scalar],
+            Call::Joint { k, l, .. }
+            | Call::PlanJ { k, l, .. }
+            | Call::PlanI { k, l, .. }
+            | Call::Cheapest { k, l, .. } => vec![k, l],
+            Call::Read { sheet } => vec![sheet],
+        }
+    }
+
+    /// The sizes of the buffers that the call writes to.
+    pub fn rooms(&self) -> Vec<usize> {
+        match self {
+            Call::Row { places, .. } => vec![*places],
+            Call::Joint { k_places, l_places, .. } => vec![*k_places, *l_places],
+            Call::PlanJ { room, .. } | Call::PlanI { room, .. } | Call::Cheapest { room, .. } => {
+                vec![*room]
+            }
+            Call::Read { .. } => Vec::new(),
+        }
+    }
+}
+
+fn sheet(plan: Plan, k: &[u8], l: &[u8]) -> Answer {
+    Answer::Sheet(Sheet::of_plan(plan, scalars::value(k), scalars::value(l)).to_bytes())
+}
+
+fn has_length(scalar: &[u8]) -> bool {
+    (1..=MOST_BYTES).contains(&scalar.len())
+}
+
+fn is_window(m: u32) -> bool {
+    m % 2 == 1 && m <= 31
+}
+
+impl fmt::Display for Call {
+    /// The words that `parse` reads back.
+    fn fmt(&self, out: &mut fmt::Formatter) -> fmt::Result {
+        match self {
+            Call::Row { scalar, m, places } => write!(out, "row {} {m} {places}", hex(scalar)),
+            Call::Joint { k, l, k_places, l_places } => {
+                write!(out, "joint {} {} {k_places} {l_places}", hex(k), hex(l))
+            }
+            Call::PlanJ { k, l, room } => write!(out, "plan-j {} {} {room}", hex(k), hex(l)),
+            Call::PlanI { k, l, m1, m2, room } => {
+                write!(out, "plan-i {} {} {m1} {m2} {room}", hex(k), hex(l))
+            }
+            Call::Cheapest { k, l, limit, room } => {
+                write!(out, "cheapest {} {} {limit} {room}", hex(k), hex(l))
+            }
+            Call::Read { sheet } => write!(out, "read {}", hex(sheet)),
+        }
+    }
+}
+
+/// The call that these words print.
+pub fn parse(words: &[&str]) -> Option<Call> {
+    Some(match *words {
+        ["row", scalar, m, places] => {
+            Call::Row { scalar: unhex(scalar)?, m: m.parse().ok()?, places: places.parse().ok()? }
+        }
+        ["joint", k, l, k_places, l_places] => Call::Joint {
+            k: unhex(k)?,
+            l: unhex(l)?,
+            k_places: k_places.parse().ok()?,
+            l_places: l_places.parse().ok()?,
+        },
+        ["plan-j", k, l, room] => {
+            Call::PlanJ { k: unhex(k)?, l: unhex(l)?, room: room.parse().ok()? }
+        }
+        ["plan-i", k, l, m1, m2, room] => Call::PlanI {
+            k: unhex(k)?,
+            l: unhex(l)?,
+            m1: m1.parse().ok()?,
+            m2: m2.parse().ok()?,
+            room: room.parse().ok()?,
+        },
+        ["cheapest", k, l, limit, room] => Call::Cheapest {
+            k: unhex(k)?,
+            l: unhex(l)?,
+            limit: limit.parse().ok()?,
+            room: room.parse().ok()?,
+        },
+        ["read", sheet] => Call::Read { sheet: unhex(sheet)? },
+        _ => return None,
+    })
+}
+
+/// Two hexadecimal figures for each byte, and `-` for no bytes.
+fn hex(bytes: &[u8]) -> String {
+    if bytes.is_empty() {
+        return "-".to_string();
+    }
+    bytes.iter().map(|byte| format!("{byte:02x}")).collect()
+}
+
+fn unhex(word: &str) -> Option<Vec<u8>> {
+    if word == "-" {
+        return Some(Vec::new());
+    }
+    let figures: Option<Vec<u8>> =
+        word.chars().map(|figure| figure.to_digit(16).map(|value| value as u8)).collect();
+    let pairs = figures.filter(|figures| figures.len() % 2 == 0)?;
+    Some(pairs.chunks(2).map(|pair| pair[0] << 4 | pair[1]).collect())
+}
+
+#[cfg(test)]
+mod tests {
+    use super::*;
+
+    #[test]
+    fn calls_read_back() {
+        let (k, l) = (vec![0, 0xff], Vec::new());
+        let calls = [
+            Call::Row { scalar: k.clone(), m: 4, places: 17 },
+            Call::Joint { k: k.clone(), l: l.clone(), k_places: 17, l_places: 0 },
+            Call::PlanJ { k: k.clone(), l: l.clone(), room: 16_384 },
+            Call::PlanI { k: k.clone(), l: l.clone(), m1: 5, m2: u32::MAX, room: 16_383 },
+            Call::Cheapest { k, l, limit: 31, room: 0 },
+            Call::Read { sheet: b"E\n".to_vec() },
+        ];
+        for call in calls {
+            let printed = call.to_string();
+            let words: Vec<&str> = printed.split(' ').collect();
+            assert_eq!(parse(&words), Some(call));
+        }
+    }
+
+    #[test]
+    fn unused_places_hold_zero() {
+        let mut buffers = [vec![9; 5]];
+        Answer::Row(vec![-1, 0, 1]).leave_in(&mut buffers);
+        assert_eq!(buffers[0], [255, 0, 1, 0, 0]);
+        let mut buffers = [vec![9; 5]];
+        Answer::Sheet(b"E\n".to_vec()).leave_in(&mut buffers);
+        assert_eq!(buffers[0], *b"E\n\x09\x09\x09");
+    }
+}

@@ -1,0 +1,99 @@
+//! Compares calls with the reference, counts them, and prints the first that fails.
+
+use crate::host;
+use crate::lent::Lent;
+use crate::outcome::{Claim, Outcome};
+use reference::calls::{Answer, Call};
+use reference::random::Random;
+
+pub struct Judge {
+    fills: Random,
+    trace: bool,
+    compared: u64,
+    failed: u64,
+}
+
+impl Judge {
+    pub fn new(seed: u64, trace: bool) -> Judge {
+        Judge { fills: Random::new(!seed), trace, compared: 0, failed: 0 }
+    }
+
+    pub fn compared(&self) -> u64 {
+        self.compared
+    }
+
+    pub fn failed(&self) -> u64 {
+        self.failed
+    }
+
+    /// Makes the call and compares it whole with the reference's answer.
+    pub fn compare(&mut self, call: &Call) -> Outcome {
+        self.compare_with(call, &call.answer())
+    }
+
+    /// Makes the call and compares it whole with this answer.
+    pub fn compare_with(&mut self, call: &Call, answer: &Answer) -> Outcome {
+        let fill = self.fills.number();
+        self.compare_filled(call, answer, fill, None)
+    }
+
+    /// Makes the call, compares it whole with the reference's answer, and holds a number found in
+    /// its outcome against one found by other means.
+    pub fn compare_claiming(&mut self, call: &Call, claim: &dyn Fn(&Outcome) -> Claim) {
+        let fill = self.fills.number();
+        self.compare_filled(call, &call.answer(), fill, Some(claim));
+    }
+
+    /// Repeats a call whose guards and buffers were first filled from this number.
+    pub fn repeat(&mut self, call: &Call, fill: u64) {
+        self.compare_filled(call, &call.answer(), fill, None);
+    }
+
+    fn compare_filled(
+        &mut self,
+        call: &Call,
+        answer: &Answer,
+        fill: u64,
+        claim: Option<&dyn Fn(&Outcome) -> Claim>,
+    ) -> Outcome {
+        if self.trace {
+            eprintln!("{call} {fill}");
+        }
+        let random = &mut Random::new(fill);
+        let mut inputs: Vec<Lent> =
+            call.inputs().iter().map(|input| Lent::copy_of(input, random)).collect();
+        let mut buffers: Vec<Lent> =
+            call.rooms().iter().map(|&room| Lent::buffer(room, random)).collect();
+        let code = host::make(call, &mut inputs, &mut buffers);
+
+        let expected = Outcome::expected(answer, &buffers);
+        let got = Outcome::got(code, &buffers);
+        let difference = if got != expected {
+            Some((expected.beside(&got, call), got.beside(&expected, call)))
+        } else if !inputs.iter().all(Lent::is_unchanged) {
+            Some(("inputs unchanged".into(), "a changed input, or a guard byte beside it".into()))
+        } else if !buffers.iter().all(Lent::guards_are_unchanged) {
+            Some(("guard bytes unchanged".into(), "a changed guard byte".into()))
+        } else {
+            claim.and_then(|claim| claim(&got).difference())
+        };
+        self.compared += 1;
+        if let Some((expected, got)) = difference {
+            self.fail(call, fill, &expected, &got);
+        }
+        got
+    }
+
+    fn fail(&mut self, call: &Call, fill: u64, expected: &str, got: &str) {
+        self.failed += 1;
+        if self.failed > 1 {
+            return;
+        }
+        println!("FAILED; repeat with: tests/differential/run {call} {fill}");
+        if let Call::Read { sheet } = call {
+            println!("sheet: \"{}\"", sheet.escape_ascii());
+        }
+        println!("expected: {expected}");
+        println!("got: {got}");
+    }
+}

@@ -1,0 +1,17 @@
+//! A second implementation of the double-and-add sheets, written from the scope document alone.
+//! The differential test compares the library with it.
+
+pub mod big;
+pub mod calls;
+pub mod cheapest;
+pub mod damage;
+pub mod foreign;
+pub mod joint;
+pub mod least;
+pub mod plan;
+pub mod random;
+pub mod reader;
+pub mod row;
+pub mod samples;
+pub mod scalars;
+pub mod sheet;

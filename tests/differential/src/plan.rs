@@ -1,0 +1,106 @@
+//! Plans: what their tables hold and how many slots they need.
+
+use crate::joint::Pair;
+use crate::row;
+
+#[derive(Clone, Copy, PartialEq, Eq, Debug)]
+pub enum Plan {
+    /// Plan J.
+    Joint,
+    /// Plan I with window m1 for P and window m2 for Q.
+    Interleaved { m1: u8, m2: u8 },
+}
+
+impl Plan {
+    /// J and all 256 plans I.
+    pub fn all() -> impl Iterator<Item = Plan> {
+        let interleaved = row::windows()
+            .flat_map(|m1| row::windows().map(move |m2| Plan::Interleaved { m1, m2 }));
+        std::iter::once(Plan::Joint).chain(interleaved)
+    }
+
+    /// The kind that the header names.
+    pub fn kind(self) -> char {
+        match self {
+            Plan::Joint => 'J',
+            Plan::Interleaved { .. } => 'I',
+        }
+    }
+
+    /// The windows that the header states.
+    pub fn windows(self) -> (u8, u8) {
+        match self {
+            Plan::Joint => (1, 1),
+            Plan::Interleaved { m1, m2 } => (m1, m2),
+        }
+    }
+
+    pub fn slots(self) -> usize {
+        match self {
+            Plan::Joint => 2,
+            Plan::Interleaved { m1, m2 } => (usize::from(m1) + usize::from(m2) - 2) / 2,
+        }
+    }
+
+    /// The T lines in order.
+    pub fn table(self) -> Vec<Pair> {
+        match self {
+            Plan::Joint => vec![(1, 1), (1, -1)],
+            Plan::Interleaved { m1, m2 } => {
+                let of_p = multiples(m1).into_iter().map(|a| (a, 0));
+                let of_q = multiples(m2).into_iter().map(|b| (0, b));
+                of_p.chain(of_q).collect()
+            }
+        }
+    }
+
+    /// The steps at a place with this column, in order.
+    pub fn steps(self, (a, b): Pair) -> impl Iterator<Item = Pair> {
+        let steps = match self {
+            Plan::Joint => [(a, b), (0, 0)],
+            Plan::Interleaved { .. } => [(a, 0), (0, b)],
+        };
+        steps.into_iter().filter(|&step| step != (0, 0))
+    }
+}
+
+/// The multiples that a table is filled with for window m: 2, then 3, 5 and so on to m.
+fn multiples(m: u8) -> Vec<i8> {
+    let odd = (3..=m as i8).step_by(2);
+    if m < 3 {
+        Vec::new()
+    } else {
+        std::iter::once(2).chain(odd).collect()
+    }
+}
+
+/// Is this line of the table a doubling? The others are additions.
+pub fn is_doubling(line: Pair) -> bool {
+    line == (2, 0) || line == (0, 2)
+}
+
+#[cfg(test)]
+mod tests {
+    use super::*;
+
+    #[test]
+    fn there_are_257_plans_of_at_most_30_slots() {
+        assert_eq!(Plan::all().count(), 257);
+        assert_eq!(Plan::all().map(Plan::slots).max(), Some(30));
+    }
+
+    #[test]
+    fn every_slot_is_filled_by_one_addition() {
+        for plan in Plan::all() {
+            let additions = plan.table().into_iter().filter(|&line| !is_doubling(line));
+            assert_eq!(additions.count(), plan.slots());
+        }
+    }
+
+    #[test]
+    fn tables() {
+        let table = Plan::Interleaved { m1: 5, m2: 3 }.table();
+        assert_eq!(table, [(2, 0), (3, 0), (5, 0), (0, 2), (0, 3)]);
+        assert_eq!(Plan::Interleaved { m1: 1, m2: 1 }.table(), []);
+    }
+}

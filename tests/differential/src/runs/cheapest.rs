@@ -1,0 +1,44 @@
+//! Cheapest sheets.
+
+use super::{refused_scalars, ROOM, ROOMS};
+use crate::judge::Judge;
+use reference::calls::{Answer, Call};
+use reference::cheapest::Weights;
+use reference::random::Random;
+use reference::scalars;
+
+const RANDOM_PAIRS: usize = 1_500;
+const REFUSED_LIMITS: [u32; 9] = [31, 32, 255, 256, 286, 65_536, 1 << 31, (1 << 31) + 5, u32::MAX];
+
+pub fn run(judge: &mut Judge, random: &mut Random) {
+    for _ in 0..RANDOM_PAIRS {
+        let (k, l) = scalars::random_pair(random);
+        every_limit(judge, &k, &l);
+    }
+    every_limit(judge, &[255; 66], &[255; 66]);
+    refusals(judge, random);
+}
+
+fn every_limit(judge: &mut Judge, k: &[u8], l: &[u8]) {
+    let weights = Weights::of(scalars::value(k), scalars::value(l));
+    for limit in 0..=30 {
+        let sheet = weights.cheapest_sheet(limit as usize).to_bytes();
+        let call = Call::Cheapest { k: k.to_vec(), l: l.to_vec(), limit, room: ROOM };
+        judge.compare_with(&call, &Answer::Sheet(sheet));
+    }
+}
+
+/// Every order of the questions.
+fn refusals(judge: &mut Judge, random: &mut Random) {
+    for room in ROOMS {
+        for limit in REFUSED_LIMITS.into_iter().chain([0, 15, 30]) {
+            let (k, l) = scalars::random_pair(random);
+            judge.compare(&Call::Cheapest { k, l, limit, room });
+            for bad in refused_scalars(random).into_iter().take(3) {
+                let good = scalars::random(random);
+                let (k, l) = if random.once_in(2) { (bad, good) } else { (good, bad) };
+                judge.compare(&Call::Cheapest { k, l, limit, room });
+            }
+        }
+    }
+}

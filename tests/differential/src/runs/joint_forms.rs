@@ -1,0 +1,75 @@
+//! Joint sparse forms.
+
+use super::refused_scalars;
+use crate::judge::Judge;
+use reference::calls::Call;
+use reference::random::Random;
+use reference::scalars;
+
+const RANDOM_PAIRS: usize = 30_000;
+
+pub fn run(judge: &mut Judge, random: &mut Random) {
+    for _ in 0..RANDOM_PAIRS {
+        let (k, l) = scalars::random_pair(random);
+        compare_with_room(judge, random, k, l);
+    }
+    every_two_lengths(judge, random);
+    around_powers(judge, random);
+    refused_lengths(judge, random);
+    small_buffers(judge, random);
+}
+
+fn compare_with_room(judge: &mut Judge, random: &mut Random, k: Vec<u8>, l: Vec<u8>) {
+    let exact = 8 * k.len().max(l.len()) + 1;
+    let k_places = exact + random.pick(&[0, 0, 1, 300]);
+    let l_places = exact + random.pick(&[0, 0, 1, 300]);
+    judge.compare(&Call::Joint { k, l, k_places, l_places });
+}
+
+fn every_two_lengths(judge: &mut Judge, random: &mut Random) {
+    for k_bytes in 1..=scalars::MOST_BYTES {
+        for l_bytes in 1..=scalars::MOST_BYTES {
+            let k = scalars::random_of_length(random, k_bytes);
+            let l = scalars::random_of_length(random, l_bytes);
+            compare_with_room(judge, random, k, l);
+        }
+    }
+}
+
+fn around_powers(judge: &mut Judge, random: &mut Random) {
+    let powers = scalars::around_powers_of_two();
+    for k in &powers {
+        let l = powers[random.below(powers.len())].clone();
+        compare_with_room(judge, random, k.clone(), l);
+    }
+}
+
+fn refused_lengths(judge: &mut Judge, random: &mut Random) {
+    let mut good = vec![vec![7], vec![255; 66]];
+    good.extend(refused_scalars(random));
+    for bad in refused_scalars(random) {
+        for other in &good {
+            let enough = 8 * bad.len().max(other.len()) + 1;
+            for places in [0, 529, enough] {
+                for (k, l) in [(&bad, other), (other, &bad)] {
+                    let (k, l) = (k.clone(), l.clone());
+                    judge.compare(&Call::Joint { k, l, k_places: places, l_places: places });
+                }
+            }
+        }
+    }
+}
+
+/// Either buffer may be the one that is too small for the longer scalar.
+fn small_buffers(judge: &mut Judge, random: &mut Random) {
+    for _ in 0..200 {
+        let (k, l) = scalars::random_pair(random);
+        let exact = 8 * k.len().max(l.len()) + 1;
+        let by_shorter = 8 * k.len().min(l.len()) + 1;
+        for small in [0, by_shorter, exact - 1] {
+            for (k_places, l_places) in [(small, exact), (exact, small), (small, small)] {
+                judge.compare(&Call::Joint { k: k.clone(), l: l.clone(), k_places, l_places });
+            }
+        }
+    }
+}

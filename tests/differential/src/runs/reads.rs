@@ -1,0 +1,184 @@
+//! The reader: foreign sheets, damaged sheets, and bytes that are no sheets.
+
+use crate::judge::Judge;
+use reference::calls::Call;
+use reference::damage::{damage, recount};
+use reference::plan::Plan;
+use reference::random::Random;
+use reference::reader::LONGEST_SHEET;
+use reference::samples::SEVEN_AND_TWO;
+use reference::sheet::Sheet;
+use reference::{foreign, scalars};
+
+const FOREIGN_SHEETS: usize = 12_000;
+const STRETCHED_SHEETS: usize = 1_500;
+const FALSE_SHEETS: usize = 5_000;
+const DAMAGED_SHEETS: usize = 80_000;
+const NO_SHEETS: usize = 2_000;
+
+/// How often each question was missed; at 0, how often none was.
+#[derive(Default)]
+pub struct Met([u64; 12]);
+
+impl Met {
+    pub fn by_number(&self) -> impl Iterator<Item = (usize, u64)> + '_ {
+        self.0.iter().copied().enumerate().filter(|(_, count)| *count > 0)
+    }
+
+    fn read(&mut self, judge: &mut Judge, sheet: Vec<u8>) {
+        let outcome = judge.compare(&Call::Read { sheet });
+        if let Some(count) = self.0.get_mut(outcome.number() as usize) {
+            *count += 1;
+        }
+    }
+}
+
+pub fn run(judge: &mut Judge, random: &mut Random) -> Met {
+    let mut met = Met::default();
+    foreign_sheets(judge, random, &mut met);
+    stretched_sheets(judge, random, &mut met);
+    false_sheets(judge, random, &mut met);
+    damaged_sheets(judge, random, &mut met);
+    every_byte_of_a_short_sheet(judge, &mut met);
+    long_sheets(judge, random, &mut met);
+    no_sheets(judge, random, &mut met);
+    met
+}
+
+fn random_plan(random: &mut Random) -> Plan {
+    match random.below(4) {
+        0 => Plan::Joint,
+        1 => Plan::Interleaved { m1: 1, m2: 1 },
+        _ => Plan::Interleaved { m1: random.window(), m2: random.window() },
+    }
+}
+
+fn foreign_sheet(random: &mut Random) -> Sheet {
+    let plan = random_plan(random);
+    let (k, l) = scalars::random_pair(random);
+    foreign::sheet(random, plan, scalars::value(&k), scalars::value(&l))
+}
+
+fn foreign_sheets(judge: &mut Judge, random: &mut Random, met: &mut Met) {
+    for _ in 0..FOREIGN_SHEETS {
+        let sheet = foreign_sheet(random);
+        met.read(judge, sheet.to_bytes());
+    }
+}
+
+/// Correct sheets with about as many doublings as are allowed, or more.
+fn stretched_sheets(judge: &mut Judge, random: &mut Random, met: &mut Met) {
+    for _ in 0..STRETCHED_SHEETS {
+        let plan = random_plan(random);
+        let (k, l) = scalars::random_pair(random);
+        let places = random.pick(&[527, 528, 529, 530, 531, 600, 900]);
+        let (k, l) = (scalars::value(&k), scalars::value(&l));
+        let sheet = foreign::stretched_sheet(random, plan, k, l, places);
+        met.read(judge, sheet.to_bytes());
+    }
+}
+
+/// Sheets whose result is not, but looks like, what the header says.
+fn false_sheets(judge: &mut Judge, random: &mut Random, met: &mut Met) {
+    for _ in 0..FALSE_SHEETS {
+        let plan = random_plan(random);
+        let (k, l) = scalars::random_pair(random);
+        let (k, l) = (scalars::value(&k), scalars::value(&l));
+        let sheet = foreign::false_sheet(random, plan, k, l);
+        met.read(judge, sheet.to_bytes());
+    }
+}
+
+fn damaged_sheets(judge: &mut Judge, random: &mut Random, met: &mut Met) {
+    for _ in 0..DAMAGED_SHEETS {
+        let sheet = sheet_to_damage(random).to_bytes();
+        met.read(judge, damage(random, &sheet));
+    }
+}
+
+/// A written or foreign sheet; mostly for short scalars, where a line that is hit at random is
+/// more often one that matters.
+fn sheet_to_damage(random: &mut Random) -> Sheet {
+    if random.once_in(4) {
+        return foreign_sheet(random);
+    }
+    let plan = random_plan(random);
+    let bytes = random.pick(&[1, 1, 2, 3, 66]);
+    let k = scalars::value(&scalars::random_of_length(random, bytes));
+    let l = scalars::value(&scalars::random_of_length(random, bytes));
+    if random.once_in(2) {
+        Sheet::of_plan(plan, k, l)
+    } else {
+        foreign::sheet(random, plan, k, l)
+    }
+}
+
+/// Every byte replaced by every other, left out, or followed by another; every cut.
+fn every_byte_of_a_short_sheet(judge: &mut Judge, met: &mut Met) {
+    let joint = "S,J,1,1,2,3,1,3,1\nT,1,1\nT,1,-1\nL,1,1\nD\nA,1,-1\nE\n";
+    for good in [SEVEN_AND_TWO, joint] {
+        let good = good.as_bytes();
+        for at in 0..good.len() {
+            met.read(judge, good[..at].to_vec());
+            met.read(judge, [&good[..at], &good[at + 1..]].concat());
+            for byte in 0..=255 {
+                met.read(judge, [&good[..at], &[byte], &good[at + 1..]].concat());
+            }
+            for &byte in b"019af,-ADELST\n \0" {
+                met.read(judge, [&good[..at], &[byte], &good[at..]].concat());
+            }
+        }
+    }
+}
+
+/// Sheets about as long as is allowed, spelled well as far as they go.
+fn long_sheets(judge: &mut Judge, random: &mut Random, met: &mut Met) {
+    let openings = [
+        "",
+        "S,I,1,1,0,0,0,0,0\n",
+        "S,I,1,1,0,0,0,1,0\nL,1,0\n",
+        "S,I,1,1,0,0,0,1,0\nL,1,0\nD\n",
+        "S,J,1,1,2,2,0,1,1\nT,1,1\nT,1,-1\nL,1,1\n",
+    ];
+    let fillings = ["D\n", "A,1,0\n", "D\nA,1,0\n", "T,2,0\n", "T,3,0\n", "E\n", "\n", "x", "9"];
+    for opening in openings {
+        for filling in fillings {
+            for length in LONGEST_SHEET - 3..=LONGEST_SHEET + 3 {
+                met.read(judge, filled(opening, filling, length));
+            }
+            let longer = random.pick(&[17_000, 32_768, 65_536, 65_600, 81_920]);
+            met.read(judge, filled(opening, filling, longer));
+        }
+    }
+    for doubles in [526, 527, 528, 529, 530, 1_000, 8_000] {
+        for opening in &openings[2..] {
+            let mut sheet = format!("{opening}{}E\n", "D\n".repeat(doubles)).into_bytes();
+            met.read(judge, sheet.clone());
+            recount(&mut sheet);
+            met.read(judge, sheet);
+        }
+    }
+}
+
+/// The opening, then the filling over and over, then E, in exactly this length. Where the filling
+/// does not fit, the figure of a last line is left hanging before E.
+fn filled(opening: &str, filling: &str, length: usize) -> Vec<u8> {
+    let mut sheet = opening.as_bytes().to_vec();
+    while sheet.len() + filling.len() + 2 <= length {
+        sheet.extend_from_slice(filling.as_bytes());
+    }
+    sheet.resize(length - 2, b'1');
+    sheet.extend_from_slice(b"E\n");
+    sheet
+}
+
+/// The empty sheet, random bytes, and random bytes of the alphabet of sheets.
+fn no_sheets(judge: &mut Judge, random: &mut Random, met: &mut Met) {
+    met.read(judge, Vec::new());
+    for _ in 0..NO_SHEETS {
+        let length = random.between(1, 300);
+        met.read(judge, random.bytes(length));
+        let spelled = (0..length).map(|_| random.pick(b"SIJTLDAE,,,0123456789-\n\n")).collect();
+        met.read(judge, spelled);
+    }
+}

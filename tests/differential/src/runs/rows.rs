@@ -1,0 +1,74 @@
+//! Rows.
+
+use super::{refused_scalars, REFUSED_WINDOWS};
+use crate::judge::Judge;
+use reference::calls::Call;
+use reference::random::Random;
+use reference::{row, scalars};
+
+const RANDOM_SCALARS: usize = 5_000;
+
+pub fn run(judge: &mut Judge, random: &mut Random) {
+    for scalar in all_scalars(random) {
+        for m in row::windows() {
+            let places = enough_places(random, scalar.len());
+            judge.compare(&Call::Row { scalar: scalar.clone(), m: m.into(), places });
+        }
+    }
+    refused_lengths(judge, random);
+    refused_windows(judge, random);
+    small_buffers(judge, random);
+}
+
+fn all_scalars(random: &mut Random) -> Vec<Vec<u8>> {
+    let mut all: Vec<Vec<u8>> = (0..=255).map(scalars::small).collect();
+    all.extend(scalars::of_every_length(random));
+    all.extend(scalars::around_powers_of_two());
+    all.extend((0..RANDOM_SCALARS).map(|_| scalars::random(random)));
+    all
+}
+
+/// The exact number of places, or more.
+fn enough_places(random: &mut Random, bytes: usize) -> usize {
+    let exact = 8 * bytes + 1;
+    match random.below(4) {
+        0 => exact + 1,
+        1 => exact + random.below(600),
+        _ => exact,
+    }
+}
+
+/// Question 1 comes before the others.
+fn refused_lengths(judge: &mut Judge, random: &mut Random) {
+    for scalar in refused_scalars(random) {
+        let exact = 8 * scalar.len() + 1;
+        for m in [1, 31, 0, 33] {
+            for places in [0, 529, exact] {
+                judge.compare(&Call::Row { scalar: scalar.clone(), m, places });
+            }
+        }
+    }
+}
+
+/// Question 2 comes before question 3.
+fn refused_windows(judge: &mut Judge, random: &mut Random) {
+    for m in REFUSED_WINDOWS.into_iter().chain((2..=62).step_by(2)) {
+        for _ in 0..4 {
+            let scalar = scalars::random(random);
+            let exact = 8 * scalar.len() + 1;
+            for places in [0, exact - 1, exact, exact + 9] {
+                judge.compare(&Call::Row { scalar: scalar.clone(), m, places });
+            }
+        }
+    }
+}
+
+fn small_buffers(judge: &mut Judge, random: &mut Random) {
+    for bytes in 1..=scalars::MOST_BYTES {
+        let exact = 8 * bytes + 1;
+        for places in [0, 1, 8, bytes, exact / 2, exact - 1, exact, exact + 1, 65_537 + bytes] {
+            let scalar = scalars::random_of_length(random, bytes);
+            judge.compare(&Call::Row { scalar, m: random.window().into(), places });
+        }
+    }
+}

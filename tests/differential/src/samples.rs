@@ -1,0 +1,127 @@
+//! The samples that the scope document prints, each as a call and the answer it names.
+
+use crate::calls::{Answer, Call};
+
+/// What a sample says of the answer to its call.
+pub enum Says {
+    Whole(Answer),
+    /// The length of a row.
+    Places(usize),
+    /// The first line of a sheet.
+    Header(&'static str),
+    /// Any answer but a refusal.
+    Passes,
+}
+
+impl Says {
+    /// Is the sample true of the answer?
+    pub fn holds_of(&self, answer: &Answer) -> bool {
+        match (self, answer) {
+            (Says::Whole(whole), _) => whole == answer,
+            (Says::Places(places), Answer::Row(digits)) => digits.len() == *places,
+            (Says::Header(header), Answer::Sheet(sheet)) => {
+                sheet.starts_with(format!("{header}\n").as_bytes())
+            }
+            (Says::Passes, _) => !matches!(answer, Answer::Refused(_)),
+            _ => false,
+        }
+    }
+}
+
+pub const SEVEN_AND_TWO: &str = "S,I,1,1,0,2,3,7,2\nL,1,0\nD\nD\nA,0,1\nD\nA,-1,0\nE\n";
+
+pub fn all() -> Vec<(Call, Says)> {
+    let mut samples = rows();
+    samples.extend(joint_forms());
+    samples.extend(bounds());
+    samples.extend(orders());
+    samples
+}
+
+fn rows() -> Vec<(Call, Says)> {
+    let sample = |scalar, m, digits: &[i8]| {
+        (row(vec![scalar], m), Says::Whole(Answer::Row(digits.to_vec())))
+    };
+    vec![
+        sample(0, 1, &[]),
+        sample(7, 5, &[-1, 0, 0, 1]),
+        sample(9, 5, &[1, 0, 0, 1]),
+        sample(9, 7, &[-7, 0, 0, 0, 1]),
+        sample(33, 31, &[-31, 0, 0, 0, 0, 0, 1]),
+        sample(53, 3, &[-3, 0, 0, -1, 0, 0, 1]),
+    ]
+}
+
+fn joint_forms() -> Vec<(Call, Says)> {
+    let sample = |k, l, k_row: &[i8], l_row: &[i8]| {
+        let call = Call::Joint { k: vec![k], l: vec![l], k_places: 9, l_places: 9 };
+        (call, Says::Whole(Answer::Columns(k_row.to_vec(), l_row.to_vec())))
+    };
+    vec![
+        sample(13, 10, &[-1, -1, 0, 0, 1], &[0, 1, 0, 1, 0]),
+        sample(7, 2, &[-1, 0, 0, 1], &[0, 1, 0, 0]),
+        sample(3, 2, &[1, 1], &[0, 1]),
+        sample(1, 2, &[1, 0], &[0, 1]),
+    ]
+}
+
+fn bounds() -> Vec<(Call, Says)> {
+    let refused = |number| Says::Whole(Answer::refused(number, 0));
+    vec![
+        (row(vec![255; 66], 1), Says::Places(529)),
+        (row(vec![255; 67], 1), refused(1)),
+        (row(vec![], 1), refused(1)),
+        (row(vec![5], 31), Says::Passes),
+        (row(vec![5], 0), refused(2)),
+        (row(vec![5], 4), refused(2)),
+        (row(vec![5], 33), refused(2)),
+        (cheapest(5, 6, 30, 16_384), Says::Passes),
+        (cheapest(5, 6, 31, 16_384), refused(4)),
+        (cheapest(5, 6, 30, 16_383), refused(3)),
+        (Call::Read { sheet: vec![b'D'; 16_385] }, refused(5)),
+    ]
+}
+
+fn orders() -> Vec<(Call, Says)> {
+    let seven_and_two = Answer::Sheet(SEVEN_AND_TWO.as_bytes().to_vec());
+    vec![
+        (cheapest(3, 0, 1, 16_384), Says::Header("S,I,1,1,0,1,2,3,0")),
+        (cheapest(7, 2, 0, 16_384), Says::Whole(seven_and_two)),
+    ]
+}
+
+fn row(scalar: Vec<u8>, m: u32) -> Call {
+    let places = 8 * scalar.len() + 1;
+    Call::Row { scalar, m, places }
+}
+
+fn cheapest(k: u8, l: u8, limit: u32, room: usize) -> Call {
+    Call::Cheapest { k: vec![k], l: vec![l], limit, room }
+}
+
+#[cfg(test)]
+mod tests {
+    use super::*;
+    use crate::big::Big;
+    use crate::row::{recode, weight};
+    use crate::{joint, reader};
+
+    #[test]
+    fn the_reference_agrees_with_every_sample() {
+        for (call, says) in all() {
+            assert!(says.holds_of(&call.answer()), "{call}");
+        }
+    }
+
+    #[test]
+    fn thirteen_and_ten_cost_four_columns_and_five_digits() {
+        let (k, l) = (Big::from(13), Big::from(10));
+        assert_eq!(joint::weight(&joint::recode(k, l)), 4);
+        assert_eq!(weight(&recode(k, 1)) + weight(&recode(l, 1)), 5);
+    }
+
+    #[test]
+    fn the_printed_sheet_is_accepted() {
+        assert_eq!(reader::read(SEVEN_AND_TWO.as_bytes()), Ok(()));
+    }
+}

@@ -1,0 +1,177 @@
+//! Scalars of many kinds, in 1 to 66 bytes.
+
+use crate::big::Big;
+use crate::random::Random;
+
+pub const MOST_BYTES: usize = 66;
+
+/// A scalar of a random kind and length.
+pub fn random(random: &mut Random) -> Vec<u8> {
+    let bytes = match random.below(4) {
+        0 => random.between(1, 4),
+        1 => MOST_BYTES,
+        _ => random.between(1, MOST_BYTES),
+    };
+    random_of_length(random, bytes)
+}
+
+/// A scalar of a random kind in so many bytes.
+pub fn random_of_length(random: &mut Random, bytes: usize) -> Vec<u8> {
+    match random.below(8) {
+        0 | 1 => random.bytes(bytes),
+        2 => runs(random, bytes),
+        3 => words(random, bytes),
+        4 => sparse(random, bytes, 0),
+        5 => sparse(random, bytes, 255),
+        6 => vec![random.byte(); bytes],
+        _ => with_leading_zeros(random, bytes),
+    }
+}
+
+/// Long runs of ones and of zeros.
+fn runs(random: &mut Random, bytes: usize) -> Vec<u8> {
+    let mut scalar = vec![0; bytes];
+    let (mut place, mut ones) = (0, random.once_in(2));
+    while place < 8 * bytes {
+        let end = (place + random.between(1, 100)).min(8 * bytes);
+        if ones {
+            (place..end).for_each(|bit| flip(&mut scalar, bit));
+        }
+        (place, ones) = (end, !ones);
+    }
+    scalar
+}
+
+/// Words of four bytes, all ones or all zeros, from the lowest up.
+fn words(random: &mut Random, bytes: usize) -> Vec<u8> {
+    let mut scalar = vec![0; bytes];
+    for word in scalar.rchunks_mut(4) {
+        word.fill(random.pick(&[0, 255]));
+    }
+    scalar
+}
+
+/// All bytes alike, but for a few bits.
+fn sparse(random: &mut Random, bytes: usize, byte: u8) -> Vec<u8> {
+    let mut scalar = vec![byte; bytes];
+    for _ in 0..random.below(6) {
+        flip(&mut scalar, random.below(8 * bytes));
+    }
+    scalar
+}
+
+fn with_leading_zeros(random: &mut Random, bytes: usize) -> Vec<u8> {
+    let mut scalar = random.bytes(bytes);
+    scalar[..random.below(bytes + 1)].fill(0);
+    scalar
+}
+
+/// Flips the bit at a place.
+fn flip(scalar: &mut [u8], place: usize) {
+    let byte = scalar.len() - 1 - place / 8;
+    scalar[byte] ^= 1 << (place % 8);
+}
+
+/// Two scalars, independent or akin.
+pub fn random_pair(random: &mut Random) -> (Vec<u8>, Vec<u8>) {
+    let k = self::random(random);
+    let l = match random.below(8) {
+        0 => k.clone(),
+        1 => k.iter().map(|byte| !byte).collect(),
+        2 => half(&k),
+        3 => vec![0; random.between(1, MOST_BYTES)],
+        4 => random_of_length(random, k.len()),
+        _ => self::random(random),
+    };
+    if random.once_in(2) {
+        (k, l)
+    } else {
+        (l, k)
+    }
+}
+
+/// Half of the scalar, rounded down, in as many bytes.
+fn half(scalar: &[u8]) -> Vec<u8> {
+    let mut carry = 0;
+    let halve = |&byte: &u8| {
+        let halved = byte >> 1 | carry << 7;
+        carry = byte & 1;
+        halved
+    };
+    scalar.iter().map(halve).collect()
+}
+
+/// Zero, one, all ones, the top bit, and random kinds, in every length from 1 to 66 bytes.
+pub fn of_every_length(random: &mut Random) -> Vec<Vec<u8>> {
+    let mut scalars = Vec::new();
+    for bytes in 1..=MOST_BYTES {
+        let zero = vec![0; bytes];
+        let (mut one, mut top) = (zero.clone(), zero.clone());
+        flip(&mut one, 0);
+        flip(&mut top, 8 * bytes - 1);
+        scalars.extend([zero, one, top, vec![255; bytes]]);
+        scalars.extend((0..4).map(|_| random_of_length(random, bytes)));
+    }
+    scalars
+}
+
+/// The powers of two and their neighbours, each in the fewest bytes.
+pub fn around_powers_of_two() -> Vec<Vec<u8>> {
+    let mut scalars = Vec::new();
+    for place in 0..8 * MOST_BYTES {
+        let mut power = vec![0; place / 8 + 1];
+        flip(&mut power, place);
+        let mut above = power.clone();
+        above[place / 8] |= 1;
+        scalars.extend([ones(place), power, above]);
+    }
+    scalars
+}
+
+/// 2^count − 1 in the fewest bytes.
+fn ones(count: usize) -> Vec<u8> {
+    let mut scalar = vec![0; count.div_ceil(8).max(1)];
+    (0..count).for_each(|place| flip(&mut scalar, place));
+    scalar
+}
+
+/// A small scalar in one byte.
+pub fn small(value: u8) -> Vec<u8> {
+    vec![value]
+}
+
+/// The number that a scalar's bytes mean.
+pub fn value(scalar: &[u8]) -> Big {
+    Big::from_bytes(scalar)
+}
+
+#[cfg(test)]
+mod tests {
+    use super::*;
+
+    #[test]
+    fn lengths_are_1_to_66() {
+        let mut generator = Random::new(7);
+        for _ in 0..2000 {
+            assert!((1..=MOST_BYTES).contains(&random(&mut generator).len()));
+        }
+    }
+
+    #[test]
+    fn neighbours_of_powers() {
+        let scalars = around_powers_of_two();
+        assert_eq!(scalars.len(), 3 * 528);
+        for (place, three) in scalars.chunks(3).enumerate() {
+            assert_eq!(value(&three[1]).bit_length(), place + 1);
+            assert_eq!(value(&three[0]).plus(1), value(&three[1]));
+            let above = if place == 0 { 0 } else { 1 };
+            assert_eq!(value(&three[1]).plus(above), value(&three[2]));
+        }
+    }
+
+    #[test]
+    fn halves() {
+        assert_eq!(half(&[3, 2]), [1, 129]);
+        assert_eq!(half(&[0]), [0]);
+    }
+}

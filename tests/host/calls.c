@@ -1,0 +1,654 @@
+/*
+ * Calls every function of sheets.h with good and bad input, and checks the answers and every byte of the buffers: against the samples
+ * of the scope document, and for other scalars by reading the digits back.
+ */
+#include "sheets.h"
+
+#include <stdio.h>
+#include <stdlib.h>
+#include <string.h>
+
+/* ---- checks ---- */
+
+static unsigned long checks, failed;
+
+static void check(int met, const char *what, int line)
+{
+    checks++;
+    if (!met) {
+        failed++;
+        printf("%s:%d: failed: %s\n", __FILE__, line, what);
+    }
+}
+
+#define CHECK(fact) check((fact), #fact, __LINE__)
+
+/* ---- inputs, each in a block of its own size ---- */
+
+struct bytes {
+    uint8_t *at;   /* what is handed in; NULL if there are none */
+    uint8_t *copy; /* the same again, to see that they are only read */
+    size_t n;
+};
+
+static struct bytes bytes_of(const uint8_t *from, size_t n)
+{
+    struct bytes b = {NULL, NULL, n};
+    if (n > 0) {
+        b.at = malloc(n);
+        b.copy = malloc(n);
+        if (b.at == NULL || b.copy == NULL)
+            exit(2);
+        memcpy(b.at, from, n);
+        memcpy(b.copy, from, n);
+    }
+    return b;
+}
+
+static struct bytes filled(uint8_t byte, size_t n)
+{
+    uint8_t *all = malloc(n + 1);
+    struct bytes b;
+    if (all == NULL)
+        exit(2);
+    memset(all, byte, n);
+    b = bytes_of(all, n);
+    free(all);
+    return b;
+}
+
+static struct bytes text(const char *s) { return bytes_of((const uint8_t *)s, strlen(s)); }
+
+/* A scalar of one byte. */
+static struct bytes byte(uint8_t value) { return bytes_of(&value, 1); }
+
+/* The next of a fixed sequence of numbers that look random. */
+static uint32_t next_number(void)
+{
+    static uint32_t state = 2463534242u;
+    state ^= state << 13;
+    state ^= state >> 17;
+    state ^= state << 5;
+    return state;
+}
+
+static struct bytes any_scalar(size_t n)
+{
+    uint8_t all[66];
+    size_t i;
+    uint32_t kind = next_number() % 4;
+    for (i = 0; i < n; i++)
+        all[i] = kind == 0 ? 255 : kind == 1 ? (uint8_t)(next_number() & next_number()) : (uint8_t)next_number();
+    return bytes_of(all, n);
+}
+
+/* Frees an input, and says whether it is as it was handed in. */
+static int only_read(struct bytes b)
+{
+    int same = b.n == 0 || memcmp(b.at, b.copy, b.n) == 0;
+    free(b.at);
+    free(b.copy);
+    return same;
+}
+
+/* ---- buffers, with guard bytes on both sides ---- */
+
+enum { GUARD = 64, MOST = SHEETS_BYTES + 64 };
+
+struct lent {
+    uint8_t all[GUARD + MOST + GUARD];
+};
+
+static uint8_t guard_byte(size_t i) { return (uint8_t)(37 * i + 11); }
+
+static uint8_t *lend(struct lent *b)
+{
+    size_t i;
+    for (i = 0; i < sizeof b->all; i++)
+        b->all[i] = guard_byte(i);
+    return b->all + GUARD;
+}
+
+/* Whether only the first n bytes of the buffer may have changed. */
+static int kept(const struct lent *b, size_t n)
+{
+    size_t i;
+    for (i = 0; i < sizeof b->all; i++)
+        if ((i < GUARD || i >= GUARD + n) && b->all[i] != guard_byte(i))
+            return 0;
+    return 1;
+}
+
+static struct lent first, second;
+
+/* ---- digits ---- */
+
+static int digit(const uint8_t *digits, size_t i)
+{
+    int8_t d;
+    memcpy(&d, digits + i, 1);
+    return d;
+}
+
+static int zeros_above(const uint8_t *digits, size_t length, size_t places)
+{
+    size_t i;
+    for (i = length; i < places; i++)
+        if (digits[i] != 0)
+            return 0;
+    return 1;
+}
+
+/* Whether the digits' sum of digit times 2^place is the scalar. The number is kept in bytes, the least significant first. */
+static int reads_back(const uint8_t *digits, size_t length, struct bytes scalar)
+{
+    uint8_t number[80] = {0};
+    size_t i, j;
+    for (i = length; i > 0; i--) {
+        int carry = digit(digits, i - 1);
+        for (j = 0; j < sizeof number; j++) {
+            int sum = 2 * number[j] + carry;
+            number[j] = (uint8_t)(sum & 255);
+            carry = (sum - number[j]) / 256;
+        }
+    }
+    for (j = 0; j < sizeof number; j++)
+        if (number[j] != (j < scalar.n ? scalar.at[scalar.n - 1 - j] : 0))
+            return 0;
+    return 1;
+}
+
+static size_t bit_length(struct bytes scalar)
+{
+    size_t i, bits;
+    for (i = 0; i < scalar.n && scalar.at[i] == 0; i++)
+        ;
+    if (i == scalar.n)
+        return 0;
+    for (bits = 0; scalar.at[i] >> bits != 0; bits++)
+        ;
+    return 8 * (scalar.n - i - 1) + bits;
+}
+
+/* ---- rows ---- */
+
+/* A row call that is to give these digits. */
+static void row_is(struct bytes scalar, uint32_t m, size_t places, const int8_t *digits, size_t length, int line)
+{
+    uint8_t *out = lend(&first);
+    uint64_t answer = sheets_row(scalar.at, scalar.n, m, out, places);
+    check(sheets_number(answer) == 0, "the row is given", line);
+    check(sheets_length(answer) == length, "its length", line);
+    check(length <= places && memcmp(out, digits, length) == 0, "its digits", line);
+    check(zeros_above(out, length, places), "zeros above", line);
+    check(kept(&first, places), "no other byte", line);
+    check(only_read(scalar), "the scalar is only read", line);
+}
+
+#define ROW(scalar, m, places, ...) \
+    row_is((scalar), (m), (places), (const int8_t[]){__VA_ARGS__}, sizeof(const int8_t[]){__VA_ARGS__}, __LINE__)
+
+/* A row call that is to be refused. */
+static void row_refused(struct bytes scalar, uint32_t m, size_t places, uint32_t number, int line)
+{
+    uint64_t answer = sheets_row(scalar.at, scalar.n, m, lend(&first), places);
+    check(answer == (uint64_t)number << 32, "the row is refused", line);
+    check(kept(&first, 0), "the buffer is as lent", line);
+    check(only_read(scalar), "the scalar is only read", line);
+}
+
+#define ROW_REFUSED(scalar, m, places, number) row_refused((scalar), (m), (places), (number), __LINE__)
+
+static void rows(void)
+{
+    int8_t ones[529] = {-1}, none[1] = {0};
+    size_t n;
+    uint32_t m;
+
+    /* the samples */
+    row_is(byte(0), 1, 9, none, 0, __LINE__);
+    ROW(byte(7), 5, 9, -1, 0, 0, 1);
+    ROW(byte(9), 5, 9, 1, 0, 0, 1);
+    ROW(byte(9), 7, 9, -7, 0, 0, 0, 1);
+    ROW(byte(33), 31, 9, -31, 0, 0, 0, 0, 0, 1);
+    ROW(byte(53), 3, 9, -3, 0, 0, -1, 0, 0, 1);
+    ones[528] = 1;
+    row_is(filled(255, 66), 1, SHEETS_PLACES(66), ones, 529, __LINE__);
+
+    /* leading zero bytes, more room than is needed, the carry out of the top place */
+    ROW(bytes_of((const uint8_t *)"\0\0\7", 3), 5, 1000, -1, 0, 0, 1);
+    ROW(byte(255), 1, 9, -1, 0, 0, 0, 0, 0, 0, 0, 1);
+    row_is(filled(0, 66), 31, SHEETS_PLACES(66), none, 0, __LINE__);
+
+    /* 1. has the scalar 1 to 66 bytes? */
+    ROW_REFUSED(filled(1, 0), 1, 1, 1);
+    ROW_REFUSED(filled(1, 67), 1, 1000, 1);
+    ROW_REFUSED(filled(0, 67), 1, 1000, 1);
+    ROW_REFUSED(filled(1, 1000), 1, MOST, 1);
+    ROW_REFUSED(filled(1, 67), 4, 0, 1);
+
+    /* 2. is m odd, 1 to 31? */
+    ROW_REFUSED(byte(7), 0, 9, 2);
+    ROW_REFUSED(byte(7), 4, 9, 2);
+    ROW_REFUSED(byte(7), 32, 9, 2);
+    ROW_REFUSED(byte(7), 33, 9, 2);
+    ROW_REFUSED(byte(7), 257, 9, 2);
+    ROW_REFUSED(byte(7), 65537, 9, 2);
+    ROW_REFUSED(byte(7), 4294967295u, 9, 2);
+    ROW_REFUSED(byte(7), 2, 0, 2);
+
+    /* 3. has the digit buffer at least 8 times bytes + 1 places? */
+    ROW_REFUSED(byte(7), 5, 8, 3);
+    ROW_REFUSED(byte(7), 5, 0, 3);
+    ROW_REFUSED(byte(0), 5, 0, 3);
+    ROW_REFUSED(filled(255, 66), 1, SHEETS_PLACES(66) - 1, 3);
+    ROW_REFUSED(bytes_of((const uint8_t *)"\0\0\7", 3), 5, 24, 3);
+
+    /* no buffer at all */
+    CHECK(sheets_row(NULL, 0, 1, NULL, 0) == (uint64_t)1 << 32);
+    CHECK(sheets_row((const uint8_t *)"\7", 1, 2, NULL, 0) == (uint64_t)2 << 32);
+    CHECK(sheets_row((const uint8_t *)"\7", 1, 1, NULL, 0) == (uint64_t)3 << 32);
+
+    /* every window, and scalars of every length */
+    for (n = 1; n <= 66; n++)
+        for (m = 1; m <= 31; m += 2) {
+            struct bytes scalar = any_scalar(n);
+            size_t places = SHEETS_PLACES(n), i, length;
+            uint8_t *out = lend(&first);
+            uint64_t answer = sheets_row(scalar.at, n, m, out, places);
+            int allowed = 1;
+            length = sheets_length(answer);
+            CHECK(sheets_number(answer) == 0);
+            CHECK(length <= bit_length(scalar) + 1);
+            for (i = 0; i < length; i++) {
+                int d = digit(out, i);
+                allowed &= d == 0 || (d % 2 != 0 && -(int)m <= d && d <= (int)m);
+            }
+            CHECK(allowed);
+            CHECK(length == 0 || out[length - 1] != 0);
+            CHECK(reads_back(out, length, scalar));
+            CHECK(zeros_above(out, length, places) && kept(&first, places));
+            CHECK(only_read(scalar));
+        }
+}
+
+/* ---- joint forms ---- */
+
+static void joint_is(struct bytes k, struct bytes l, const int8_t *k_digits, const int8_t *l_digits, size_t length, int line)
+{
+    uint8_t *p = lend(&first), *q = lend(&second);
+    size_t places = SHEETS_PLACES(k.n > l.n ? k.n : l.n);
+    uint64_t answer = sheets_joint(k.at, k.n, l.at, l.n, p, places, q, places + 3);
+    check(sheets_number(answer) == 0, "the joint form is given", line);
+    check(sheets_length(answer) == length, "its length", line);
+    check(memcmp(p, k_digits, length) == 0, "the digits of k", line);
+    check(memcmp(q, l_digits, length) == 0, "the digits of l", line);
+    check(zeros_above(p, length, places) && zeros_above(q, length, places + 3), "zeros above", line);
+    check(kept(&first, places) && kept(&second, places + 3), "no other byte", line);
+    check(only_read(k) & only_read(l), "the scalars are only read", line);
+}
+
+static void joint_refused(struct bytes k, struct bytes l, size_t k_places, size_t l_places, uint32_t number, int line)
+{
+    uint64_t answer = sheets_joint(k.at, k.n, l.at, l.n, lend(&first), k_places, lend(&second), l_places);
+    check(answer == (uint64_t)number << 32, "the joint form is refused", line);
+    check(kept(&first, 0) && kept(&second, 0), "the buffers are as lent", line);
+    check(only_read(k) & only_read(l), "the scalars are only read", line);
+}
+
+#define JOINT_REFUSED(k, l, k_places, l_places, number) joint_refused((k), (l), (k_places), (l_places), (number), __LINE__)
+
+/* The joint sparse rules (a), (b) and (c) at all places of two rows; above their length the rows hold 0. */
+static int keeps_rules(const uint8_t *p, const uint8_t *q, size_t places)
+{
+    size_t i;
+    for (i = 0; i < places; i++) {
+        int a = digit(p, i), b = digit(q, i);
+        if (a < -1 || a > 1 || b < -1 || b > 1)
+            return 0;
+        if (i + 2 < places && (a | b) != 0 && (p[i + 1] | q[i + 1]) != 0 && (p[i + 2] | q[i + 2]) != 0)
+            return 0;
+        if (i + 1 < places) {
+            int above_a = digit(p, i + 1), above_b = digit(q, i + 1);
+            if (a * above_a == -1 || b * above_b == -1)
+                return 0;
+            if (a != 0 && above_a != 0 && (above_b == 0 || b != 0))
+                return 0;
+            if (b != 0 && above_b != 0 && (above_a == 0 || a != 0))
+                return 0;
+        }
+    }
+    return 1;
+}
+
+static void joints(void)
+{
+    size_t n;
+
+    /* the samples */
+    joint_is(byte(13), byte(10), (const int8_t[]){-1, -1, 0, 0, 1}, (const int8_t[]){0, 1, 0, 1, 0}, 5, __LINE__);
+    joint_is(byte(7), byte(2), (const int8_t[]){-1, 0, 0, 1}, (const int8_t[]){0, 1, 0, 0}, 4, __LINE__);
+    joint_is(byte(3), byte(2), (const int8_t[]){1, 1}, (const int8_t[]){0, 1}, 2, __LINE__);
+    joint_is(byte(1), byte(2), (const int8_t[]){1, 0}, (const int8_t[]){0, 1}, 2, __LINE__);
+    joint_is(byte(0), byte(0), (const int8_t[]){0}, (const int8_t[]){0}, 0, __LINE__);
+    joint_is(byte(3), bytes_of((const uint8_t *)"\0\2", 2), (const int8_t[]){1, 1}, (const int8_t[]){0, 1}, 2, __LINE__);
+
+    /* 1. has each scalar 1 to 66 bytes? */
+    JOINT_REFUSED(filled(1, 0), byte(2), 1000, 1000, 1);
+    JOINT_REFUSED(byte(7), filled(1, 0), 1000, 1000, 1);
+    JOINT_REFUSED(filled(1, 67), byte(2), 1000, 1000, 1);
+    JOINT_REFUSED(byte(7), filled(1, 67), 1000, 1000, 1);
+    JOINT_REFUSED(byte(7), filled(1, 67), 0, 0, 1);
+
+    /* 3. have both digit buffers room, by the longer scalar? */
+    JOINT_REFUSED(byte(7), byte(2), 8, 9, 3);
+    JOINT_REFUSED(byte(7), byte(2), 9, 8, 3);
+    JOINT_REFUSED(byte(7), byte(2), 0, 0, 3);
+    JOINT_REFUSED(byte(7), filled(0, 2), 9, 17, 3);
+    JOINT_REFUSED(byte(7), filled(0, 2), 17, 16, 3);
+    JOINT_REFUSED(filled(0, 2), byte(7), 17, 9, 3);
+    JOINT_REFUSED(filled(255, 66), byte(7), 529, 528, 3);
+
+    /* no buffer at all */
+    CHECK(sheets_joint(NULL, 0, NULL, 0, NULL, 0, NULL, 0) == (uint64_t)1 << 32);
+    CHECK(sheets_joint((const uint8_t *)"\7", 1, (const uint8_t *)"\2", 1, NULL, 0, NULL, 0) == (uint64_t)3 << 32);
+
+    /* scalars of every length */
+    for (n = 1; n <= 66; n++) {
+        struct bytes k = any_scalar(n), l = any_scalar(1 + next_number() % 66);
+        size_t places = SHEETS_PLACES(k.n > l.n ? k.n : l.n), bits, length;
+        uint8_t *p = lend(&first), *q = lend(&second);
+        uint64_t answer = sheets_joint(k.at, k.n, l.at, l.n, p, places, q, places);
+        length = sheets_length(answer);
+        bits = bit_length(k) > bit_length(l) ? bit_length(k) : bit_length(l);
+        CHECK(sheets_number(answer) == 0);
+        CHECK(length <= bits + 1);
+        CHECK(length == 0 || (p[length - 1] | q[length - 1]) != 0);
+        CHECK(keeps_rules(p, q, places));
+        CHECK(reads_back(p, length, k));
+        CHECK(reads_back(q, length, l));
+        CHECK(zeros_above(p, length, places) && zeros_above(q, length, places));
+        CHECK(kept(&first, places) && kept(&second, places));
+        CHECK(only_read(k) & only_read(l));
+    }
+}
+
+/* ---- sheets ---- */
+
+/* A call for a sheet: of plan J, of plan I with two windows, or the cheapest under a limit. */
+struct order {
+    char kind;
+    uint32_t m1, m2;
+};
+
+static const struct order plan_j = {'J', 0, 0};
+static struct order plan_i(uint32_t m1, uint32_t m2) { return (struct order){'I', m1, m2}; }
+static struct order cheapest(uint32_t limit) { return (struct order){'C', limit, 0}; }
+
+static uint64_t write_sheet(struct order o, struct bytes k, struct bytes l, uint8_t *sheet, size_t room)
+{
+    if (o.kind == 'J')
+        return sheets_plan_j(k.at, k.n, l.at, l.n, sheet, room);
+    if (o.kind == 'I')
+        return sheets_plan_i(k.at, k.n, l.at, l.n, o.m1, o.m2, sheet, room);
+    return sheets_cheapest(k.at, k.n, l.at, l.n, o.m1, sheet, room);
+}
+
+/* A call that is to write a sheet that begins so, and that the reader accepts. Returns the sheet's length. */
+static size_t sheet_begins(struct order o, struct bytes k, struct bytes l, const char *begins, int line)
+{
+    uint8_t *sheet = lend(&first);
+    uint64_t answer = write_sheet(o, k, l, sheet, SHEETS_BYTES);
+    size_t length = sheets_length(answer);
+    struct bytes written;
+    check(sheets_number(answer) == 0, "the sheet is written", line);
+    check(strlen(begins) <= length && memcmp(sheet, begins, strlen(begins)) == 0, "it begins so", line);
+    check(length <= SHEETS_BYTES && kept(&first, length), "no byte behind it", line);
+    written = bytes_of(sheet, length);
+    check(sheets_read(written.at, written.n) == 0, "the reader accepts it", line);
+    check(only_read(written), "the sheet is only read", line);
+    check(only_read(k) & only_read(l), "the scalars are only read", line);
+    return length;
+}
+
+/* A call that is to write this sheet. */
+static void sheet_is(struct order o, struct bytes k, struct bytes l, const char *whole, int line)
+{
+    check(sheet_begins(o, k, l, whole, line) == strlen(whole), "it is this sheet", line);
+}
+
+static void sheet_refused(struct order o, struct bytes k, struct bytes l, size_t room, uint32_t number, int line)
+{
+    uint64_t answer = write_sheet(o, k, l, lend(&first), room);
+    check(answer == (uint64_t)number << 32, "the sheet is refused", line);
+    check(kept(&first, 0), "the buffer is as lent", line);
+    check(only_read(k) & only_read(l), "the scalars are only read", line);
+}
+
+#define SHEET_REFUSED(o, k, l, room, number) sheet_refused((o), (k), (l), (room), (number), __LINE__)
+
+/* The header of a sheet of plan I for scalars of any length: `S,I,m1,m2,slots,`. */
+static void windows_begin(uint32_t m1, uint32_t m2, int line)
+{
+    char begins[32];
+    snprintf(begins, sizeof begins, "S,I,%u,%u,%u,", (unsigned)m1, (unsigned)m2, (unsigned)((m1 + m2 - 2) / 2));
+    sheet_begins(plan_i(m1, m2), any_scalar(1 + next_number() % 66), any_scalar(1 + next_number() % 66), begins, line);
+}
+
+static const char seven_two[] = "S,I,1,1,0,2,3,7,2\nL,1,0\nD\nD\nA,0,1\nD\nA,-1,0\nE\n";
+
+static const char thirteen_ten[] =
+    "S,J,1,1,2,5,4,d,a\nT,1,1\nT,1,-1\nL,1,0\nD\nA,0,1\nD\nD\nA,-1,1\nD\nA,-1,0\nE\n";
+
+static const char nine[] = "S,I,5,1,2,3,4,9,0\nT,2,0\nT,3,0\nT,5,0\nL,1,0\nD\nD\nD\nA,1,0\nE\n";
+
+static void sheets(void)
+{
+    uint32_t m, limit;
+    size_t n;
+
+    /* the samples */
+    sheet_is(cheapest(0), byte(7), byte(2), seven_two, __LINE__);
+    sheet_begins(cheapest(1), byte(3), byte(0), "S,I,1,1,0,1,2,3,0\n", __LINE__);
+
+    /* sheets of a named plan */
+    sheet_is(plan_i(1, 1), byte(7), byte(2), seven_two, __LINE__);
+    sheet_is(plan_j, byte(13), byte(10), thirteen_ten, __LINE__);
+    sheet_is(plan_i(5, 1), byte(9), byte(0), nine, __LINE__);
+    sheet_is(plan_j, byte(0), byte(0), "S,J,1,1,2,2,0,0,0\nT,1,1\nT,1,-1\nE\n", __LINE__);
+    sheet_is(plan_i(1, 1), filled(0, 66), byte(0), "S,I,1,1,0,0,0,0,0\nE\n", __LINE__);
+    sheet_is(cheapest(30), byte(0), byte(0), "S,I,1,1,0,0,0,0,0\nE\n", __LINE__);
+
+    /* the longest scalars, every window, every limit, scalars of every length */
+    sheet_begins(plan_j, filled(255, 66), filled(255, 66), "S,J,1,1,2,", __LINE__);
+    sheet_begins(plan_j, filled(85, 66), filled(255, 66), "S,J,1,1,2,", __LINE__);
+    sheet_begins(plan_i(1, 1), filled(85, 66), filled(85, 66), "S,I,1,1,0,", __LINE__);
+    sheet_begins(plan_i(31, 31), filled(255, 66), filled(255, 66), "S,I,31,31,30,", __LINE__);
+    for (m = 1; m <= 31; m += 2) {
+        windows_begin(m, 32 - m, __LINE__);
+        windows_begin(m, m, __LINE__);
+    }
+    for (limit = 0; limit <= 30; limit++)
+        sheet_begins(cheapest(limit), any_scalar(1 + next_number() % 66), any_scalar(1 + next_number() % 66), "S,", __LINE__);
+    for (n = 1; n <= 66; n++)
+        sheet_begins(plan_j, any_scalar(n), any_scalar(67 - n), "S,J,1,1,2,", __LINE__);
+
+    /* 1. has each scalar 1 to 66 bytes? */
+    SHEET_REFUSED(plan_j, filled(1, 0), byte(2), SHEETS_BYTES, 1);
+    SHEET_REFUSED(plan_j, byte(7), filled(1, 0), SHEETS_BYTES, 1);
+    SHEET_REFUSED(plan_j, filled(1, 67), byte(2), SHEETS_BYTES, 1);
+    SHEET_REFUSED(plan_j, byte(7), filled(1, 67), 0, 1);
+    SHEET_REFUSED(plan_i(1, 1), filled(1, 0), byte(2), SHEETS_BYTES, 1);
+    SHEET_REFUSED(plan_i(1, 1), byte(7), filled(1, 67), SHEETS_BYTES, 1);
+    SHEET_REFUSED(plan_i(2, 1), filled(1, 67), byte(2), 0, 1);
+    SHEET_REFUSED(cheapest(0), filled(1, 0), byte(2), SHEETS_BYTES, 1);
+    SHEET_REFUSED(cheapest(0), byte(7), filled(1, 67), SHEETS_BYTES, 1);
+    SHEET_REFUSED(cheapest(31), filled(1, 67), byte(2), 0, 1);
+
+    /* 2. is each window odd, 1 to 31? */
+    SHEET_REFUSED(plan_i(0, 1), byte(7), byte(2), SHEETS_BYTES, 2);
+    SHEET_REFUSED(plan_i(1, 4), byte(7), byte(2), SHEETS_BYTES, 2);
+    SHEET_REFUSED(plan_i(33, 1), byte(7), byte(2), SHEETS_BYTES, 2);
+    SHEET_REFUSED(plan_i(1, 33), byte(7), byte(2), SHEETS_BYTES, 2);
+    SHEET_REFUSED(plan_i(257, 1), byte(7), byte(2), SHEETS_BYTES, 2);
+    SHEET_REFUSED(plan_i(1, 257), byte(7), byte(2), SHEETS_BYTES, 2);
+    SHEET_REFUSED(plan_i(65537, 4294967295u), byte(7), byte(2), SHEETS_BYTES, 2);
+    SHEET_REFUSED(plan_i(1, 2), byte(7), byte(2), 0, 2);
+
+    /* 4. is the limit at most 30? */
+    SHEET_REFUSED(cheapest(31), byte(7), byte(2), SHEETS_BYTES, 4);
+    SHEET_REFUSED(cheapest(256), byte(7), byte(2), SHEETS_BYTES, 4);
+    SHEET_REFUSED(cheapest(65536), byte(7), byte(2), SHEETS_BYTES, 4);
+    SHEET_REFUSED(cheapest(4294967295u), byte(7), byte(2), SHEETS_BYTES, 4);
+    SHEET_REFUSED(cheapest(31), byte(7), byte(2), SHEETS_BYTES - 1, 4);
+
+    /* 3. has the sheet buffer at least 16,384 bytes? */
+    SHEET_REFUSED(plan_j, byte(7), byte(2), SHEETS_BYTES - 1, 3);
+    SHEET_REFUSED(plan_j, byte(7), byte(2), 0, 3);
+    SHEET_REFUSED(plan_i(1, 1), byte(7), byte(2), SHEETS_BYTES - 1, 3);
+    SHEET_REFUSED(plan_i(1, 1), byte(7), byte(2), 0, 3);
+    SHEET_REFUSED(cheapest(0), byte(7), byte(2), SHEETS_BYTES - 1, 3);
+    SHEET_REFUSED(cheapest(30), byte(7), byte(2), 0, 3);
+
+    /* no buffer at all */
+    CHECK(sheets_plan_j(NULL, 0, NULL, 0, NULL, 0) == (uint64_t)1 << 32);
+    CHECK(sheets_plan_i(NULL, 0, NULL, 0, 0, 0, NULL, 0) == (uint64_t)1 << 32);
+    CHECK(sheets_cheapest(NULL, 0, NULL, 0, 31, NULL, 0) == (uint64_t)1 << 32);
+    CHECK(sheets_plan_j((const uint8_t *)"\7", 1, (const uint8_t *)"\2", 1, NULL, 0) == (uint64_t)3 << 32);
+    CHECK(sheets_cheapest((const uint8_t *)"\7", 1, (const uint8_t *)"\2", 1, 0, NULL, 0) == (uint64_t)3 << 32);
+}
+
+/* ---- the reader ---- */
+
+static void read_is(struct bytes sheet, uint32_t number, uint32_t at, int line)
+{
+    uint64_t answer = sheets_read(sheet.at, sheet.n);
+    check(sheets_number(answer) == number, "the question", line);
+    check(sheets_line(answer) == at, "the line", line);
+    check(only_read(sheet), "the sheet is only read", line);
+}
+
+#define READ(sheet, number, at) read_is(text(sheet), (number), (at), __LINE__)
+
+/* A sheet of plan I for 2^doublings - 1, if that many D lines are allowed. */
+static struct bytes long_sheet(unsigned doublings)
+{
+    static char all[4096];
+    unsigned i;
+    size_t n = (size_t)snprintf(all, sizeof all, "S,I,1,1,0,1,%u,", doublings);
+    for (i = 0; i < 132; i++)
+        all[n++] = 'f';
+    n += (size_t)snprintf(all + n, sizeof all - n, ",0\nL,1,0\n");
+    for (i = 0; i < doublings; i++)
+        n += (size_t)snprintf(all + n, sizeof all - n, "D\n");
+    n += (size_t)snprintf(all + n, sizeof all - n, "A,-1,0\nE\n");
+    return bytes_of((const uint8_t *)all, n);
+}
+
+static void damaged(void)
+{
+    size_t n = sizeof seven_two - 1, i;
+    unsigned value;
+    int refused = 1, placed = 1, cut = 1;
+    for (i = 0; i < n; i++) {
+        struct bytes sheet = text(seven_two), prefix = bytes_of((const uint8_t *)seven_two, i);
+        for (value = 0; value < 256; value++)
+            if (value != (uint8_t)seven_two[i]) {
+                uint64_t answer;
+                sheet.at[i] = (uint8_t)value;
+                answer = sheets_read(sheet.at, sheet.n);
+                refused &= 6 <= sheets_number(answer) && sheets_number(answer) <= 11;
+                placed &= 1 <= sheets_line(answer) && sheets_line(answer) <= 9;
+            }
+        free(sheet.at);
+        free(sheet.copy);
+        cut &= sheets_number(sheets_read(prefix.at, prefix.n)) == 6;
+        CHECK(only_read(prefix));
+    }
+    CHECK(refused);
+    CHECK(placed);
+    CHECK(cut);
+}
+
+static void readings(void)
+{
+    READ(seven_two, 0, 0);
+    READ(thirteen_ten, 0, 0);
+    READ(nine, 0, 0);
+    READ("S,I,1,1,0,0,0,0,0\nE\n", 0, 0);
+    /* a sheet for 3, 0 that no call writes */
+    READ("S,I,1,1,0,2,2,3,0\nL,1,0\nD\nA,-1,0\nD\nA,1,0\nE\n", 0, 0);
+
+    /* 5. is it at most 16,384 bytes? */
+    read_is(filled('\n', 16385), 5, 0, __LINE__);
+    read_is(filled('\n', 16384), 6, 1, __LINE__);
+    read_is(filled('D', 16385), 5, 0, __LINE__);
+
+    /* 6. is each line spelled and placed as it must be? */
+    read_is(filled(0, 0), 6, 1, __LINE__);
+    READ("\n", 6, 1);
+    READ("E\n", 6, 1);
+    READ("S,I,1,1,0,2,3,7,2", 6, 1);
+    READ("S,I,1,1,0,2,3,7,2\n", 6, 2);
+    READ("S,I,1,1,0,2,3,07,2\nE\n", 6, 1);
+    READ("S,I,1,1,0,2,3,A,2\nE\n", 6, 1);
+    READ("S,I,1,1,0,2,3,7,2\nL,1,0\nD\nD\nA,0,1\nD\nA,-1,0\nE", 6, 8);
+    READ("S,I,1,1,0,2,3,7,2\nL,1,0\nD\nD\nA,0,1\nD\nA,-1,0\n", 6, 8);
+    READ("S,I,1,1,0,2,3,7,2\nL,1,0\nD\nD\nA,0,1\nD\nA,-1,0\nE\nE\n", 6, 9);
+    READ("S,I,1,1,0,2,3,7,2\nL,1,0\nD\nD\nA,+0,1\nD\nA,-1,0\nE\n", 6, 5);
+    READ("S,I,1,1,0,2,3,7,2\nL,1,0\nD\nD\nA,-0,1\nD\nA,-1,0\nE\n", 6, 5);
+    READ("S,I,1,1,0,2,3,7,2\nD\nL,1,0\nE\n", 6, 2);
+    READ("S,I,1,1,0,2,3,7,2\r\nE\r\n", 6, 1);
+
+    /* 7. are the windows, the slots and the T lines the plan's? */
+    READ("S,I,2,1,0,2,3,7,2\nE\n", 7, 1);
+    READ("S,I,33,1,16,2,3,7,2\nE\n", 7, 1);
+    READ("S,J,1,3,2,2,0,0,0\nT,1,1\nT,1,-1\nE\n", 7, 1);
+    READ("S,I,1,1,1,2,3,7,2\nL,1,0\nE\n", 7, 1);
+    READ("S,I,1,1,0,2,3,7,2\nT,2,0\nL,1,0\nE\n", 7, 2);
+    READ("S,J,1,1,2,1,0,0,0\nT,1,1\nE\n", 7, 3);
+    READ("S,J,1,1,2,2,0,0,0\nT,1,1\nT,1,1\nE\n", 7, 3);
+    READ("S,J,1,1,2,3,0,0,0\nT,1,1\nT,1,-1\nT,1,1\nE\n", 7, 4);
+
+    /* 8. is each step allowed by the plan? */
+    READ("S,I,1,1,0,0,0,0,0\nL,0,0\nE\n", 8, 2);
+    READ("S,I,1,1,0,0,0,3,0\nL,3,0\nE\n", 8, 2);
+    READ("S,I,1,1,0,1,0,1,1\nL,1,1\nE\n", 8, 2);
+    READ("S,I,1,1,0,1,0,1,1\nL,0,1\nA,1,0\nE\n", 8, 3);
+    READ("S,I,1,1,0,2,3,7,2\nL,1,0\nD\nD\nA,0,1\nA,0,1\nD\nA,-1,0\nE\n", 8, 6);
+    READ("S,J,1,1,2,3,0,1,1\nT,1,1\nT,1,-1\nL,1,0\nA,0,1\nE\n", 8, 5);
+
+    /* 9. are there at most 528 D lines? */
+    read_is(long_sheet(528), 0, 0, __LINE__);
+    read_is(long_sheet(529), 9, 531, __LINE__);
+    read_is(long_sheet(700), 9, 531, __LINE__);
+
+    /* 10. are both counts true? */
+    READ("S,I,1,1,0,3,3,7,2\nL,1,0\nD\nD\nA,0,1\nD\nA,-1,0\nE\n", 10, 1);
+    READ("S,I,1,1,0,2,4,7,2\nL,1,0\nD\nD\nA,0,1\nD\nA,-1,0\nE\n", 10, 1);
+    READ("S,J,1,1,2,0,0,0,0\nT,1,1\nT,1,-1\nE\n", 10, 1);
+
+    /* 11. is the result (k, l)? */
+    READ("S,I,1,1,0,2,3,6,2\nL,1,0\nD\nD\nA,0,1\nD\nA,-1,0\nE\n", 11, 1);
+    READ("S,I,1,1,0,2,3,7,3\nL,1,0\nD\nD\nA,0,1\nD\nA,-1,0\nE\n", 11, 1);
+    READ("S,I,1,1,0,0,0,7,2\nL,1,0\nE\n", 11, 1);
+    READ("S,I,1,1,0,0,0,7,2\nE\n", 11, 1);
+
+    /* the first question missed decides, wherever its line is */
+    READ("S,I,2,1,0,9,9,9,9\nL,0,0\nX\n", 6, 3);
+    READ("S,I,1,1,5,9,9,9,9\nL,0,0\nE\n", 7, 1);
+    READ("S,I,1,1,0,9,9,9,9\nL,0,0\nE\n", 8, 2);
+    READ("S,I,1,1,0,9,9,9,9\nL,1,0\nE\n", 10, 1);
+
+    damaged();
+}
+
+int main(void)
+{
+    rows();
+    joints();
+    sheets();
+    readings();
+    printf("host: %lu checks, %lu failed\n", checks, failed);
+    return failed != 0;
+}
