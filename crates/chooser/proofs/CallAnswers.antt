@@ -12,6 +12,7 @@ use Rattle.digits.specs.Scalar.{scalar}
 use Rattle.recode.specs.Call.{sized}
 use Rattle.sheet.specs.declared.Plan.{Plan}
 use Rattle.sheet.specs.declared.Plan.the-variants.{J, I}
+use Rattle.sheet.specs.Plan.{mostSlots}
 use Rattle.sheet.specs.Planned.{of-window}
 use Rattle.writer.specs.declared.answer.Sheet.{Sheet}
 use Rattle.writer.specs.declared.answer.Sheet.the-variants.{BadScalar, NoRoom, BadLimit}
@@ -57,9 +58,9 @@ module _ (k l buffer : List ℕ) (limit : ℕ) where
     not-scalars e = refused BadScalar (rw e)
 
     module _ (sizes : (sized card k && sized card l) ≡ true) where
-      pub over-limit : 30 < limit → Returned BadLimit buffer
+      pub over-limit : mostSlots < limit → Returned BadLimit buffer
       unfolding cheapestAnswer
-      over-limit h = refused BadLimit (rw (sizes, lt-leb limit 30 h))
+      over-limit h = refused BadLimit (rw (sizes, lt-leb limit mostSlots h))
 
       -- a valid plan's call asks only for room
       plan-answer : {p : Plan} → Valid p → planAnswer card p k l (length buffer) ≡ cond (roomy card (length buffer)) (wrote p k l) NoRoom
@@ -72,10 +73,10 @@ module _ (k l buffer : List ℕ) (limit : ℕ) where
       plan-buffer forJ = refl
       plan-buffer (forI v w) = refl
 
-      module _ (low : limit ≤ 30) where
+      module _ (low : limit ≤ mostSlots) where
         answered : cheapestAnswer card k l limit (length buffer) ≡ planAnswer card (cheapestPlan (scalar k) (scalar l) limit) k l (length buffer)
         unfolding cheapestAnswer
-        answered = rw (sizes, le-leb limit 30 low) (sym (plan-answer (plan-within (scalar k) (scalar l) limit .0)))
+        answered = rw (sizes, le-leb limit mostSlots low) (sym (plan-answer (plan-within (scalar k) (scalar l) limit .0)))
 
         pub by-plan : {a : Sheet} {out : List ℕ} {p : Plan} → p ≡ cheapestPlan (scalar k) (scalar l) limit
             → a ≡ planAnswer card p k l (length buffer) → out ≡ planBuffer card p k l buffer → Returned a out

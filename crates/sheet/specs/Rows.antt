@@ -83,7 +83,7 @@ columns-value ls r = comes (point (pos 0) (pos 0)) [] ls at-start r
 -- ── each place has digits of the plan, one at most in each row ──────────────────────────────
 
 -- what a plan counts of one column
-abbrev weigh : Plan → Column → ℕ
+abbrev pub weigh : Plan → Column → ℕ
 weigh J c = counted (blank c)
 weigh (I m1 m2) c = count (c .p) + count (c .q)
 
@@ -101,7 +101,8 @@ record Place (p : Plan) (n : ℕ) (c : Column) : Type 0 where
   fit : Fit p c
   free : Free p n c
 
-weight-more : (p : Plan) (c : Column) (cs : List Column) → weight p (c ∷ cs) ≡ weigh p c + weight p cs
+-- the weight of one column more, and of none
+pub weight-more : (p : Plan) (c : Column) (cs : List Column) → weight p (c ∷ cs) ≡ weigh p c + weight p cs
 unfolding Columns.weight Rows.weight row
 weight-more J c cs = refl
 weight-more (I m1 m2) c cs = omega arith
@@ -183,7 +184,7 @@ taken n c x l (forQ {m1} {m2} {t} z a b) =
 
 -- ── so are the columns of all steps ─────────────────────────────────────────────────────────
 
-weight-none : (p : Plan) → weight p [] ≡ 0
+pub weight-none : (p : Plan) → weight p [] ≡ 0
 unfolding Columns.weight Rows.weight row
 weight-none J = refl
 weight-none (I m1 m2) = refl
@@ -225,11 +226,12 @@ unfolding columnsFrom
 tables-columns cs [] ls = refl
 tables-columns cs (t ∷ ts) ls = tables-columns cs ts ls
 
-sheet-columns : (h : Header) (ts : List Point) (st : Steps) → columns (sheetLines h ts st) ≡ columnsFrom [] (stepLines st ++ (end ∷ []))
+pub sheet-columns : (h : Header) (ts : List Point) (st : Steps) → columns (sheetLines h ts st) ≡ columnsFrom [] (stepLines st ++ (end ∷ []))
 unfolding columns columnsFrom sheetLines
 sheet-columns h ts st = tables-columns [] ts (stepLines st ++ (end ∷ []))
 
-sheet-additions : (h : Header) (p : Plan) (st : Steps)
+-- the additions are those of the table and the steps; the header does not count
+pub sheet-additions : (h : Header) (p : Plan) (st : Steps)
     → additions (sheetLines h (tables p) st) ≡ tableAdditions p + additions (stepLines st ++ (end ∷ []))
 unfolding additions sheetLines
 sheet-additions h p st =

@@ -7,10 +7,11 @@ use native.Mathlib.Omega.{arith}
 use Rattle.sheet.specs.declared.Plan.{Plan}
 use Rattle.sheet.specs.Digits.{weight}
 use Rattle.sheet.specs.Spelling.{lineFeed}
-use Rattle.writer.specs.Parts.{Put, Room, stepsBytes, columnAt, columnsBelow, weighed}
+use Rattle.sheet.specs.Rows.{weigh, weight-none, weight-more}
+use Rattle.writer.specs.Parts.{Put, Room, stepsBytes, columnAt, columnsBelow}
 use Rattle.writer.specs.Written.{placeSteps}
 use Rattle.writer.proofs.Puts.{Progress, begun, advance, finished, progress-same, progress-room, room-first}
-use Rattle.writer.proofs.StepBytes.{movesBytes, moves-none, moves-more, weight-none, weight-more}
+use Rattle.writer.proofs.StepBytes.{movesBytes, moves-none, moves-more}
 
 -- the places from i up have been put, and those below i are left
 abbrev pub Moving : Plan → List ℕ → List ℕ → ℕ → List ℕ → List ℕ → ℕ → ℕ → ℕ → Type 0
@@ -56,7 +57,7 @@ module _ (plan : Plan) (p q : List ℕ) where
   unfolding columnsBelow
   weigh-start = (sym (weight-none plan), omega arith)
 
-  pub weigh-turn : (n i : ℕ) → Weighed plan p q n i → (w : ℕ) → (w ≡ weighed plan (columnAt p q i)) × (w ≤ 2) → Weighed plan p q (n + w) (i + 1)
+  pub weigh-turn : (n i : ℕ) → Weighed plan p q n i → (w : ℕ) → (w ≡ weigh plan (columnAt p q i)) × (w ≤ 2) → Weighed plan p q (n + w) (i + 1)
   unfolding columnsBelow
   weigh-turn n i s w e = (
     omega (arith, s .0, e .0, weight-more plan (columnAt p q i) (columnsBelow p q i), ap (λ (j : ℕ). weight plan (columnsBelow p q j)) (add-one i)),

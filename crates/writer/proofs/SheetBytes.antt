@@ -25,7 +25,7 @@ use Rattle.writer.specs.Lengths.{spell-append}
 use Rattle.writer.specs.Columns.{digits-top}
 use Rattle.writer.specs.Parts.{columnAt, columnsBelow, lettersOf, decimalsOf, scalarsOf, headerBytes, Holds, Bounded, Ready}
 use Rattle.writer.specs.Written.{digits, kindOf, first, second, heading, stepsDown, stepsOf, writtenLines, writtenAdditions, written}
-use Rattle.writer.proofs.StepBytes.{weight-none, weight-more}
+use Rattle.sheet.specs.Rows.{weight-none, weight-more}
 
 -- ── the header ──────────────────────────────────────────────────────────────────────────────
 

@@ -16,12 +16,12 @@ use Rattle.digits.specs.Column.{counted, row}
 use Rattle.digits.specs.Two.{Column, isZero, blank}
 use Rattle.sheet.specs.declared.Plan.{Plan}
 use Rattle.sheet.specs.declared.Plan.the-variants.{J, I}
-use Rattle.sheet.specs.Digits.{weight}
+use Rattle.sheet.specs.Rows.{weigh}
 use Rattle.sheet.specs.Line.{Line, table, load, add}
 use Rattle.sheet.specs.Plan.{Point, point}
 use Rattle.sheet.specs.Sound.{Moves, moveLines, stepLines}
 use Rattle.sheet.specs.Spelling.{comma, lineFeed, digit, join, spell}
-use Rattle.writer.specs.Parts.{signed, pointLine, stepsBytes, columnAt, columnsBelow, weighed}
+use Rattle.writer.specs.Parts.{signed, pointLine, stepsBytes, columnAt, columnsBelow}
 use Rattle.writer.specs.Written.{unlessZero, placeSteps, addAll, movesOf, stepsDown}
 use Rattle.writer.specs.Written as Written
 
@@ -188,18 +188,8 @@ no-places plan p q places e = ap (λ (n : ℕ). spell (stepLines (stepsDown plan
 
 -- ── what a plan counts ──────────────────────────────────────────────────────────────────────
 
-pub weight-none : (plan : Plan) → weight plan [] ≡ 0
-unfolding Columns.weight Rows.weight row
-weight-none J = refl
-weight-none (I m1 m2) = refl
-
-pub weight-more : (plan : Plan) (c : Column) (cs : List Column) → weight plan (c ∷ cs) ≡ weighed plan c + weight plan cs
-unfolding Columns.weight Rows.weight row
-weight-more J c cs = refl
-weight-more (I m1 m2) c cs = omega arith
-
-pub weighed-none : (c : Column) → blank c ≡ true → 0 ≡ weighed J c
+pub weighed-none : (c : Column) → blank c ≡ true → 0 ≡ weigh J c
 weighed-none c e = sym (ap counted e)
 
-pub weighed-one : (c : Column) → blank c ≡ false → 1 ≡ weighed J c
+pub weighed-one : (c : Column) → blank c ≡ false → 1 ≡ weigh J c
 weighed-one c e = sym (ap counted e)

@@ -22,12 +22,12 @@ use Rattle.sheet.specs.Exactly.{accepted-exactly}
 use Rattle.sheet.specs.Line.{Header, plan, Line, table, end}
 use Rattle.sheet.specs.Plan.{Point, point, slots, stored, tables, tableAdditions, doubled, tableDoublings}
 use Rattle.sheet.specs.Questions.{additions, doublings, result}
-use Rattle.sheet.specs.Rows.{columns-value, accepted-rows}
+use Rattle.sheet.specs.Rows.{columns-value, sheet-columns, sheet-additions, accepted-rows}
 use Rattle.sheet.specs.Sound.{Steps, stepLines, sheetLines, Windows, Allowed, Sound}
 use Rattle.sheet.specs.Sound as Sounds
 use Rattle.sheet.specs.SpelledRead.{ShortHeader, spelled-read}
 use Rattle.sheet.specs.Spelling.{lines}
-use Rattle.sheet.specs.TableCost.{additions-append, tables-additions, doublings-append, tables-doublings}
+use Rattle.sheet.specs.TableCost.{doublings-append, tables-doublings}
 use Rattle.writer.specs.Written.{digits, stepsOf, kindOf, first, second, heading, linesWith, writtenLines, writtenAdditions, written}
 use Rattle.writer.specs.Columns.{digits-fit, digits-value, digits-top, digits-length}
 use Rattle.writer.specs.Valid.{Valid, forJ, forI}
@@ -52,24 +52,7 @@ windows-heading : {p : Plan} → Valid p → Windows (kindOf p) (first p) (secon
 windows-heading forJ = Sounds.forJ refl refl
 windows-heading (forI v w) = Sounds.forI v w
 
--- the columns of a sheet are those of its steps
-tables-columns : (cs : List Column) (ts : List Point) (ls : List Line) → columnsFrom cs (map table ts ++ ls) ≡ columnsFrom cs ls
-unfolding columnsFrom
-tables-columns cs [] ls = refl
-tables-columns cs (t ∷ ts) ls = tables-columns cs ts ls
-
-sheet-columns : (h : Header) (ts : List Point) (st : Steps) → columns (sheetLines h ts st) ≡ columnsFrom [] (stepLines st ++ (end ∷ []))
-unfolding columns columnsFrom sheetLines
-sheet-columns h ts st = tables-columns [] ts (stepLines st ++ (end ∷ []))
-
--- the counts are those of the table and the steps; the header does not count
-sheet-additions : (h : Header) (p : Plan) (st : Steps)
-    → additions (sheetLines h (tables p) st) ≡ tableAdditions p + additions (stepLines st ++ (end ∷ []))
-unfolding additions sheetLines
-sheet-additions h p st =
-    additions-append (map table (tables p)) (stepLines st ++ (end ∷ []))
-    ∙ ap (λ (n : ℕ). n + additions (stepLines st ++ (end ∷ []))) (tables-additions p)
-
+-- the doublings are those of the table and the steps; the header does not count
 sheet-doublings : (h : Header) (p : Plan) (st : Steps)
     → doublings (sheetLines h (tables p) st) ≡ tableDoublings p + doublings (stepLines st ++ (end ∷ []))
 unfolding doublings sheetLines

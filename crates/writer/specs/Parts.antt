@@ -50,11 +50,6 @@ unfoldable pub columnsBelow : List ℕ → List ℕ → ℕ → List Column
 columnsBelow p q zero = []
 columnsBelow p q (suc i) = columnAt p q i ∷ columnsBelow p q i
 
--- what a plan counts of a column: for J 1 where it is not zero, for I its digits that are not 0
-abbrev pub weighed : Plan → Column → ℕ
-weighed J c = counted (blank c)
-weighed (I m1 m2) c = count (c .p) + count (c .q)
-
 -- n times Q, or n times P
 abbrev pub alone : Bool → ℕ → Point
 alone true n = point (pos 0) (pos n)

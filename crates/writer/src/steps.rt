@@ -8,9 +8,10 @@ ghost use Rattle.digits.specs.Row;
 ghost use Rattle.digits.specs.Two;
 ghost use Rattle.sheet.specs.Digits.{weight};
 ghost use Rattle.sheet.specs.Plan.{point};
+ghost use Rattle.sheet.specs.Rows.{weigh};
 ghost use Rattle.sheet.specs.Sound.{moveLines, stepLines};
 ghost use Rattle.sheet.specs.Spelling.{lineFeed, spell};
-ghost use Rattle.writer.specs.Parts.{Put, Room, signed, stepsBytes, columnAt, columnsBelow, weighed};
+ghost use Rattle.writer.specs.Parts.{Put, Room, signed, stepsBytes, columnAt, columnsBelow};
 ghost use Rattle.writer.specs.Written.{unlessZero, placeSteps, movesOf, stepsDown};
 use crate::write::PLACES;
 use sheet::Plan;
@@ -122,7 +123,7 @@ fn count(digit: u8) -> u32
 
 // What the plan counts of a place.
 fn weigh_place(plan: Plan, p: u8, q: u8) -> u32
-    ensures { λ r. ⌜ (r ≡ weighed plan (point (signed p) (signed q))) × (r ≤ 2) ⌝ }
+    ensures { λ r. ⌜ (r ≡ weigh plan (point (signed p) (signed q))) × (r ≤ 2) ⌝ }
 {
     match plan {
         Plan::J => {
