@@ -52,7 +52,8 @@ fn long(name: &[u8], head: &[u8], body: &[u8], times: usize, tail: &[u8]) {
     answer(name, &buffer[..third]);
 }
 
-fn spelling() {
+// The end of a line.
+fn line_ends() {
     answer(
         b"sample ",
         b"S,I,1,1,0,2,3,7,2\nL,1,0\nD\nD\nA,0,1\nD\nA,-1,0\nE\n",
@@ -71,6 +72,10 @@ fn spelling() {
         b"nul_byte ",
         b"S,I,1,1,0,2,3,7,2\nL,1,0\nD\0\nD\nA,0,1\nD\nA,-1,0\nE\n",
     );
+}
+
+// Zeros in front, and signs.
+fn zeros() {
     answer(
         b"leading_zero_count ",
         b"S,I,1,1,0,02,3,7,2\nL,1,0\nD\nD\nA,0,1\nD\nA,-1,0\nE\n",
@@ -91,6 +96,10 @@ fn spelling() {
         b"minus_zero ",
         b"S,I,1,1,0,2,3,7,2\nL,1,-0\nD\nD\nA,0,1\nD\nA,-1,0\nE\n",
     );
+}
+
+// Figures, and the end of the sheet.
+fn figures() {
     answer(
         b"plus_one ",
         b"S,I,1,1,0,2,3,7,2\nL,+1,0\nD\nD\nA,0,1\nD\nA,-1,0\nE\n",
@@ -121,7 +130,8 @@ fn spelling() {
     );
 }
 
-fn places() {
+// Lines out of place.
+fn order() {
     answer(b"add_before_load ", b"S,I,1,1,0,1,0,1,0\nA,1,0\nE\n");
     answer(
         b"two_loads ",
@@ -136,12 +146,17 @@ fn places() {
         b"two_headers ",
         b"S,I,1,1,0,2,3,7,2\nS,I,1,1,0,2,3,7,2\nD\nD\nA,0,1\nD\nA,-1,0\nE\n",
     );
+}
+
+// Sheets without a load.
+fn nothing() {
     answer(b"nothing_for_zero ", b"S,I,1,1,0,0,0,0,0\nE\n");
     answer(b"nothing_for_one ", b"S,I,1,1,0,0,0,1,0\nE\n");
     answer(b"nothing_joint ", b"S,J,1,1,2,2,0,0,0\nT,1,1\nT,1,-1\nE\n");
     answer(b"double_first ", b"S,I,1,1,0,0,1,0,0\nD\nE\n");
 }
 
+// Table lines.
 fn tables() {
     answer(
         b"joint ",
@@ -175,6 +190,10 @@ fn tables() {
         b"table_not_asked ",
         b"S,I,1,1,0,2,3,7,2\nT,2,0\nL,1,0\nD\nD\nA,0,1\nD\nA,-1,0\nE\n",
     );
+}
+
+// Windows and slots.
+fn windows() {
     answer(
         b"window_even ",
         b"S,I,2,1,0,2,3,7,2\nL,1,0\nD\nD\nA,0,1\nD\nA,-1,0\nE\n",
@@ -201,6 +220,7 @@ fn tables() {
     );
 }
 
+// Steps of plan I.
 fn steps() {
     answer(b"p_after_q ", b"S,I,1,1,0,1,0,1,1\nL,0,1\nA,1,0\nE\n");
     answer(b"q_after_p ", b"S,I,1,1,0,1,0,1,1\nL,1,0\nA,0,1\nE\n");
@@ -213,6 +233,10 @@ fn steps() {
         b"digit_beyond ",
         b"S,I,1,1,0,2,3,7,2\nL,1,0\nD\nD\nA,0,3\nD\nA,-1,0\nE\n",
     );
+}
+
+// Steps of both plans.
+fn joint_steps() {
     answer(
         b"both_zero ",
         b"S,I,1,1,0,2,3,7,2\nL,1,0\nD\nD\nA,0,0\nD\nA,-1,0\nE\n",
@@ -270,6 +294,7 @@ fn counts() {
     );
 }
 
+// Results that are off.
 fn results() {
     answer(
         b"k_more ",
@@ -287,6 +312,10 @@ fn results() {
         b"l_less ",
         b"S,I,1,1,0,2,3,7,1\nL,1,0\nD\nD\nA,0,1\nD\nA,-1,0\nE\n",
     );
+}
+
+// Signs, and sheets from others.
+fn signs() {
     answer(b"sign ", b"S,I,1,1,0,0,0,1,0\nL,-1,0\nE\n");
     answer(b"sign_q ", b"S,I,1,1,0,0,0,0,1\nL,0,-1\nE\n");
     answer(
@@ -326,7 +355,8 @@ fn several() {
     );
 }
 
-fn long_sheets() {
+// 528 D lines, and 529.
+fn doublings() {
     long(
         b"doubles_528 ",
         b"S,I,1,1,0,1,528,800000000000000000000000000000000000000000000000000000000000000000000000000000000000000000000000000000000000000000000000000000000000,0\nL,1,0\nD\nA,-1,0\n",
@@ -355,6 +385,10 @@ fn long_sheets() {
         528,
         b"E\n",
     );
+}
+
+// 16,384 bytes, and more.
+fn sizes() {
     long(
         b"bytes_16384 ",
         b"S,I,1,1,0,0,8177,0,0\nL,1,0\n",
@@ -386,12 +420,19 @@ fn long_sheets() {
 }
 
 fn main() {
-    spelling();
-    places();
+    line_ends();
+    zeros();
+    figures();
+    order();
+    nothing();
     tables();
+    windows();
     steps();
+    joint_steps();
     counts();
     results();
+    signs();
     several();
-    long_sheets();
+    doublings();
+    sizes();
 }
