@@ -2,16 +2,16 @@
 use mathlib.Core.Path.{_≡_, refl, sym, ap, ap₂, _∙_}
 use mathlib.Core.Logic.{_≢_}
 use mathlib.Core.List.{List, [], _∷_, _++_, map}
-use Prim.Native.Nat.{ℕ, zero, suc, _+_, _-_, _%_, _≤_, _<_}
+use Prim.Native.Nat.{ℕ, zero, suc, _+_, _-_, _*_, _%_, _≤_, _<_}
 use native.Mathlib.Numerals.{add-one}
 use native.Mathlib.Omega.{arith}
 use lib.IntN.{ℤ, pos, negsuc, natAbs}
-use lib.ListN.{length, getD, drop, replicate, drop-of-length-le, length-map}
+use lib.ListN.{length, getD, drop, replicate, drop-of-length-le}
 use lib.Seq.{drop-cons}
 use Rattle.digits.specs.Byte.{byteOf}
 use Rattle.digits.specs.Column as Columns
 use Rattle.digits.specs.Row as Rows
-use Rattle.digits.specs.Row.{Over, empty, more, Digit, none, odd}
+use Rattle.digits.specs.Row.{Over, more, Digit, none, odd}
 use Rattle.digits.specs.Two as Two
 use Rattle.digits.specs.Two.{Column, P, Q, two}
 use Rattle.digits.specs.Limits.{card}
@@ -111,7 +111,7 @@ columns-weighed cs k l s =
 -- ── of the calls ────────────────────────────────────────────────────────────────────────────
 
 -- the digits that a row call leaves are counted
-pub row-call : (s : List ℕ) (m : ℕ) (buffer : List ℕ) → 1 ≤ length s → length s ≤ 66 → m % 2 ≡ 1 → m ≤ 31 → 529 ≤ length buffer
+pub row-call : (s : List ℕ) (m : ℕ) (buffer : List ℕ) → 1 ≤ length s → length s ≤ 66 → m % 2 ≡ 1 → m ≤ 31 → 8 * length s + 1 ≤ length buffer
     → nonzero (rowBuffer card s m buffer) ≡ Rows.weight (row m (pos (scalar s)))
 row-call s m buffer h l o w r =
     ap nonzero (sym (RowAnswers.written card s m buffer (omega arith) l (omega arith) w (length (row m (pos (scalar s)))) (filled (row m (pos (scalar s))) buffer) (omega arith) refl refl .1))

@@ -1,5 +1,5 @@
 ghost use mathlib.Core.Path.{_≡_};
-ghost use Prim.Native.Nat.{_+_, _%_, _<_, _≤_};
+ghost use Prim.Native.Nat.{_+_, _*_, _%_, _<_, _≤_};
 ghost use lib.IntN.{pos};
 ghost use lib.ListN.{length};
 ghost use Rattle.digits.specs.Column;
@@ -55,14 +55,24 @@ fn count_pairs(a: &[u8], b: &[u8]) -> u32
     n
 }
 
+// The number of non-zero digits of the scalar's row for the window m, which is written into the places lent.
+fn row_weight_in(bytes: &[u8], m: u32, digits: &mut [u8]) -> u32
+    requires { ⌜ (1 ≤ length (now bytes)) × ((length (now bytes) ≤ 66) × ((m % 2 ≡ 1) × (m ≤ 31))) ⌝ }
+    requires { ⌜ length (now digits) ≡ 8 * length (now bytes) + 1 ⌝ }
+    ensures { λ r. ⌜ r ≡ Row.weight (Rows.row m (pos (scalar (now (bytes .entry))))) ⌝ }
+{
+    recode::row(bytes, m, digits);
+    count(digits)
+}
+
 // The number of non-zero digits of the scalar's row for the window m.
 fn row_weight(bytes: &[u8], m: u32) -> u32
     requires { ⌜ (1 ≤ length (now bytes)) × ((length (now bytes) ≤ 66) × ((m % 2 ≡ 1) × (m ≤ 31))) ⌝ }
     ensures { λ r. ⌜ r ≡ Row.weight (Rows.row m (pos (scalar (now (bytes .entry))))) ⌝ }
 {
     let mut digits = [0u8; 529];
-    recode::row(bytes, m, &mut digits);
-    count(&digits)
+    let places = 8 * bytes.len() + 1;
+    row_weight_in(bytes, m, &mut digits[..places])
 }
 
 // The number of non-zero columns of the joint form.

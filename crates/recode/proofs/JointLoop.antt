@@ -1,8 +1,8 @@
 -- One turn of the column loop over plain values: the state that the loop keeps, what one side of a turn needs, and the turn.
-use mathlib.Core.Path.{_≡_, refl, sym, ap, ap₂, subst, _∙_}
+use mathlib.Core.Path.{_≡_, refl, sym, ap, subst, _∙_}
 use mathlib.Core.Logic.{_⊎_, ⊎-elim}
 use mathlib.Core.List.{List}
-use Prim.Native.Nat.{ℕ, zero, suc, _+_, _*_, _/_, _%_, _^_, _≤_, _<_}
+use Prim.Native.Nat.{ℕ, _+_, _%_, _≤_, _<_}
 use native.Mathlib.Omega.{arith}
 use lib.IntN.{ℤ, pos, natAbs, _-ℤ_}
 use lib.ListN.{length, set, replicate, length-set}
@@ -11,7 +11,7 @@ use Rattle.digits.specs.Bytes.{Bytes}
 use Rattle.digits.specs.Column as Column
 use Rattle.digits.specs.Integer.{up, half}
 use Rattle.digits.specs.Scalar.{little}
-use Rattle.digits.specs.Two.{Two, P, Q, of, other, two}
+use Rattle.digits.specs.Two.{Two, P, Q, of, two}
 use Rattle.recode.specs.declared.low.Low.{Low}
 use Rattle.recode.specs.Call.{filled}
 use Rattle.recode.specs.Joint.{joint, digit, rest}
@@ -21,8 +21,13 @@ use Rattle.recode.specs.Remainder.{remaining, Held}
 use Rattle.recode.proofs.LowRemainder.{Used, remaining-new, remaining-zero, remaining-some, remaining-less, sixty-four}
 use Rattle.recode.proofs.JointTurns.{Turn, relaid, start, store, stop, room}
 
--- what one of the two numbers needs: its digit comes from the low bits of both
-module _ (bytes bytes′ : List ℕ) (s o : Low) (d : ℤ) (is : d ≡ digit (pos (s .low)) (pos (o .low))) where
+-- what one of the two numbers needs: its digit comes from the lowest bits of both
+module _ (bytes bytes′ : List ℕ) (s o : Low) (d : ℤ) (of-lowest : d ≡ digit (pos (s .low % 64)) (pos (o .low % 64))) where
+  is : d ≡ digit (pos (s .low)) (pos (o .low))
+  is =
+      of-lowest
+      ∙ digit-mod (pos (s .low % 64)) (pos (s .low)) (pos (o .low % 64)) (pos (o .low)) (omega arith) (omega arith)
+
   pub small : natAbs d ≤ 1
   small = subst (λ (x : ℤ). natAbs x ≤ 1) (sym is) (digit-fits (pos (s .low)) (pos (o .low)) .0)
 
@@ -106,7 +111,7 @@ module _ {k l : List ℕ} {k-used l-used : ℕ} {k-out₀ l-out₀ : List ℕ} (
       inside = room (little k) (little l) (length k-out₀) (g .fits) some (st .turn)
 
       -- a column is stored
-      pub stored : (6 ≤ s .bits) → (6 ≤ t .bits) → (c d : ℤ) → c ≡ digit (pos (s .low)) (pos (t .low)) → d ≡ digit (pos (t .low)) (pos (s .low))
+      pub stored : (6 ≤ s .bits) → (6 ≤ t .bits) → (c d : ℤ) → c ≡ digit (pos (s .low % 64)) (pos (t .low % 64)) → d ≡ digit (pos (t .low % 64)) (pos (s .low % 64))
           → (b e : ℕ) → b ≡ byteOf c → e ≡ byteOf d → (s′ t′ : Low)
           → Held s′ × ((s′ .at ≡ s .at) × ((s′ .bits + 1 ≡ s .bits) × (pos (s′ .low) ≡ half (pos (s .low) -ℤ c))))
           → Held t′ × ((t′ .at ≡ t .at) × ((t′ .bits + 1 ≡ t .bits) × (pos (t′ .low) ≡ half (pos (t .low) -ℤ d))))

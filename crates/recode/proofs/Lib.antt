@@ -1,6 +1,6 @@
 pub mod Turned
-pub mod Masked
 pub mod LowBits
+pub mod Window
 pub mod Laid
 pub mod Prefix
 pub mod LowRemainder

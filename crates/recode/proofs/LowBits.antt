@@ -1,37 +1,44 @@
--- The laws of a remainder held as low bits and bytes: taking in the next byte, dropping zeros, and halving.
-use mathlib.Core.Path.{_≡_, refl, sym, ap, _∙_}
+-- The laws of a remainder held as low bits and bytes: taking in the next four bytes, dropping zeros, and halving.
+use mathlib.Core.Path.{_≡_, refl, ap, _∙_}
 use mathlib.Core.Logic.{_≢_}
 use mathlib.Core.List.{List, [], _∷_}
 use Prim.Native.Nat.{ℕ, zero, suc, _+_, _-_, _*_, _/_, _%_, _^_, _≤_, _<_}
 use native.Mathlib.Nat.{mul-le-mul-left, lt-of-not-le, le-of-suc-le-suc, mul-div-cancel-left, pow-suc, zero-div}
-use native.Mathlib.Numerals.{add-one, sub-one}
+use native.Mathlib.Numerals.{sub-one}
 use native.Mathlib.Omega.{arith}
 use lib.Count.{trailingZeros, under}
 use lib.ListN.{length, getD, drop, drop-of-length-le}
 use lib.Pow.{pow-add, pow-pos, pow-mono, shl-exact}
-use lib.Seq.{drop-cons}
 use lib.IntN.{ℤ, pos, negsuc, natAbs, _-ℤ_, pos-ne-negsuc}
 use Rattle.digits.specs.Integer.{up, down, half, difference, size}
 use Rattle.digits.specs.Scalar.{little}
 
--- a byte above at most 5 low bits
-pub shifted-byte : (b k : ℕ) → b < 256 → k ≤ 5 → (b * 2 ^ k) % 65536 ≡ b * 2 ^ k
-shifted-byte b k h l = shl-exact {a = b} 8 k 16 h (omega arith)
-
-pub more-bits : (k : ℕ) → 2 ^ (k + 8) ≡ 256 * 2 ^ k
-more-bits k = pow-add 2 k 8 ∙ omega arith
-
-pub byte-bound : (b k x : ℕ) → b < 256 → x ≤ 2 ^ k + 31 → x + b * 2 ^ k ≤ 256 * 2 ^ k + 31
-byte-bound b k x h l = omega (arith, mul-le-mul-left (2 ^ k) h)
-
-pub few : (k : ℕ) → k ≤ 5 → 2 ^ k ≤ 32
-few k h = pow-mono {j = 5} h
-
-pub next-byte : (bytes : List ℕ) (at k x : ℕ) → at < length bytes
-    → x + getD bytes at 0 * 2 ^ k + 2 ^ (k + 8) * little (drop (at + 1) bytes) ≡ x + 2 ^ k * little (drop at bytes)
+-- the bytes from a place on are the byte there and those above it, also past the end
+pub byte-step : (bytes : List ℕ) (at next : ℕ) → next ≡ suc at → little (drop at bytes) ≡ getD bytes at 0 + 256 * little (drop next bytes)
 unfolding little
-next-byte bytes at k x h =
-    rw (drop-cons bytes at 0 h, more-bits, add-one) (omega arith)
+byte-step bytes at next e = rw e (go bytes at)
+  where
+    go : (bytes : List ℕ) (at : ℕ) → little (drop at bytes) ≡ getD bytes at 0 + 256 * little (drop (suc at) bytes)
+    go [] zero = refl
+    go [] (suc at) = refl
+    go (b ∷ bytes) zero = refl
+    go (b ∷ bytes) (suc at) = go bytes at
+
+-- a word above at most 15 low bits
+pub shifted-word : (w k : ℕ) → w < 2 ^ 32 → k ≤ 15 → (w * 2 ^ k) % 2 ^ 64 ≡ w * 2 ^ k
+shifted-word w k h l = shl-exact {a = w} 32 k 64 h (omega arith)
+
+pub more-bits : (k : ℕ) → 2 ^ (k + 32) ≡ 2 ^ 32 * 2 ^ k
+more-bits k = pow-add 2 k 32 ∙ omega arith
+
+pub word-bound : (w k x : ℕ) → w < 2 ^ 32 → x ≤ 2 ^ k + 31 → x + w * 2 ^ k ≤ 2 ^ 32 * 2 ^ k + 31
+word-bound w k x h l = omega (arith, mul-le-mul-left (2 ^ k) h)
+
+pub few : (k : ℕ) → k ≤ 15 → 2 ^ k ≤ 32768
+few k h = pow-mono {j = 15} h
+
+pub next-word : (w k x a b : ℕ) → w + 2 ^ 32 * a ≡ b → x + w * 2 ^ k + 2 ^ (k + 32) * a ≡ x + 2 ^ k * b
+next-word w k x a b e = rw (more-bits, ← e) (omega arith)
 
 pub no-byte : (bytes : List ℕ) (at j k x : ℕ) → length bytes ≤ at → x + 2 ^ j * little (drop at bytes) ≡ x + 2 ^ k * little (drop at bytes)
 unfolding little
@@ -54,26 +61,23 @@ odd-part (suc k) n p h = go (n % 2) refl (λ q. odd-part k (n / 2) q (omega arit
 
 -- what `zeros` answers of n, which has b low bits
 abbrev pub Zeros : ℕ → ℕ → ℕ → Type 0
-Zeros b n z = (z ≤ b) × ((n ≡ 2 ^ z * (n / 2 ^ z)) × (z ≡ 0 → n % 2 ≡ 1))
+Zeros b n z = (z ≤ b) × ((n ≡ 2 ^ z * (n / 2 ^ z)) × (z < b → n / 2 ^ z % 2 ≡ 1))
 
 within : (b n z q : ℕ) → 6 ≤ b → n ≤ 2 ^ b + 31 → n ≡ 2 ^ z * q → q % 2 ≡ 1 → z ≤ b
 within b n z q h l e o =
     le-of-suc-le-suc (lt-of-not-le {n = suc b} (λ (g : suc b ≤ z).
     omega (arith, pow-mono {i = 6} {j = b} h, pow-mono {i = suc b} {j = z} g, mul-le-mul-left {m = 1} {n = q} (2 ^ z) (omega arith))))
 
-odd-zero : (n z q : ℕ) → n ≡ 2 ^ z * q → q % 2 ≡ 1 → z ≡ 0 → n % 2 ≡ 1
-odd-zero n z q e o p = let f : n ≡ 1 * q = e ∙ ap (λ (k : ℕ). 2 ^ k * q) p in omega arith
-
-pub trailing : (b n : ℕ) → 6 ≤ b → n ≤ 2 ^ b + 31 → n ≢ 0 → n < 65536 → Zeros b n (trailingZeros 16 n)
-trailing b n h l p m = go (trailingZeros 16 n) (odd-part 16 n (omega arith) m)
+pub trailing : (b n : ℕ) → 6 ≤ b → n ≤ 2 ^ b + 31 → n ≢ 0 → n < 2 ^ 64 → Zeros b n (trailingZeros 64 n)
+trailing b n h l p m = go (trailingZeros 64 n) (odd-part 64 n (omega arith) m)
   where
     go : (z : ℕ) → (q : ℕ) × (n ≡ 2 ^ z * q) × (q % 2 ≡ 1) → Zeros b n z
     go z t =
         let quotient : n / 2 ^ z ≡ t .0 = ap (λ (k : ℕ). k / 2 ^ z) (t .1) ∙ mul-div-cancel-left (t .0) (pow-pos z) in
-        (within b n z (t .0) h l (t .1) (t .2), (rw quotient (t .1), odd-zero n z (t .0) (t .1) (t .2)))
+        (within b n z (t .0) h l (t .1) (t .2), (rw quotient (t .1), λ _. rw quotient (t .2)))
 
-pub all-zeros : (b n : ℕ) → 6 ≤ b → n ≡ 0 → Zeros b n b
-all-zeros b n h e = rw e (omega arith, (rw zero-div (omega arith), omega arith))
+pub all-zeros : (b n : ℕ) → n ≡ 0 → Zeros b n b
+all-zeros b n e = rw e (omega arith, (rw zero-div (omega arith), λ l. absurd (omega arith)))
 
 -- dropping z zeros of b bits keeps the number within its bits
 shrunk : (b n z q k : ℕ) → n ≤ 2 ^ b + 31 → n ≡ 2 ^ z * q → k + z ≡ b → q ≤ 2 ^ k + 31
@@ -92,7 +96,7 @@ unfolding half
 half-parts (pos n) r e = omega (arith, ap up e)
 half-parts (negsuc n) r e = absurd (pos-ne-negsuc r (n / 2) e)
 
-pub one-bit-less : (b : ℕ) → 1 ≤ b → 2 ^ b ≡ 2 * 2 ^ (b - 1)
+one-bit-less : (b : ℕ) → 1 ≤ b → 2 ^ b ≡ 2 * 2 ^ (b - 1)
 one-bit-less zero h = absurd (omega arith)
 one-bit-less (suc b) h = rw sub-one (omega arith)
 

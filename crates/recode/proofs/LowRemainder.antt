@@ -6,18 +6,18 @@ use native.Mathlib.Nat.{mul-le-mul-left, pow-suc}
 use native.Mathlib.Numerals.{add-one}
 use native.Mathlib.Omega.{arith}
 use lib.IntN.{ℤ, pos, negsuc, _-ℤ_}
-use lib.ListN.{length, getD, drop, drop-of-length-le}
+use lib.ListN.{drop}
 use lib.Pow.{pow-add, pow-pos, pow-mono}
-use Rattle.digits.specs.Bytes.{Bytes, little-append, little-below, bytes-power}
+use Rattle.digits.specs.Bytes.{Bytes, bytes-power}
 use Rattle.digits.specs.Integer.{up, down, half, difference, one-side}
 use Rattle.digits.specs.Length.{below-length, length-least}
 use Rattle.digits.specs.Scalar.{little, bitLength}
 use Rattle.recode.specs.declared.low.Low.{Low}
 use Rattle.recode.specs.DigitOnly.{digit-mod}
-use Rattle.recode.specs.Remainder.{remaining, Held}
+use Rattle.recode.specs.Remainder.{remaining}
 use Rattle.recode.specs.Residue.{width}
-use Rattle.recode.specs.Row.{digit, rest}
-use Rattle.recode.proofs.LowBits.{half-parts, one-bit-less}
+use Rattle.recode.specs.Row.{digit}
+use Rattle.recode.proofs.LowBits.{half-parts}
 
 pub remaining-new : (bytes : List ℕ) (s : Low) → (s .at ≡ 0) × ((s .bits ≡ 0) × (s .low ≡ 0)) → remaining bytes s ≡ little bytes
 unfolding remaining
@@ -83,9 +83,6 @@ module _ (bytes : List ℕ) (s : Low) (bits : 6 ≤ s .bits) where
   sixty-four =
       let power : 2 ^ s .bits ≡ 64 * 2 ^ (s .bits - 6) = ap (λ (n : ℕ). 2 ^ n) (omega arith) ∙ pow-add 2 6 (s .bits - 6) in
       rw power (omega arith)
-
-  pub remaining-odd : remaining bytes s % 2 ≡ s .low % 2
-  remaining-odd = omega (arith, sixty-four)
 
   pub digit-low : (m : ℕ) → 1 ≤ m → width m ≤ 6 → digit m (pos (remaining bytes s)) ≡ digit m (pos (s .low))
   digit-low m h l = digit-mod m 6 (pos (remaining bytes s)) (pos (s .low)) h l sixty-four

@@ -1,8 +1,7 @@
 -- One turn of the row loop over plain values: the state that the loop keeps, and what each kind of turn makes of it.
 use mathlib.Core.Path.{_≡_, refl, sym, ap, subst, _∙_}
-use mathlib.Core.Logic.{_≢_}
 use mathlib.Core.List.{List}
-use Prim.Native.Nat.{ℕ, zero, suc, _+_, _-_, _*_, _/_, _%_, _^_, _≤_, _<_}
+use Prim.Native.Nat.{ℕ, zero, suc, _+_, _*_, _/_, _%_, _^_, _≤_, _<_}
 use native.Mathlib.Omega.{arith}
 use lib.IntN.{ℤ, pos, natAbs, _-ℤ_}
 use lib.ListN.{length, set, replicate, length-set}
@@ -13,7 +12,7 @@ use Rattle.digits.specs.Scalar.{little}
 use Rattle.recode.specs.declared.low.Low.{Low}
 use Rattle.recode.specs.Call.{filled}
 use Rattle.recode.specs.Remainder.{remaining, Held}
-use Rattle.recode.specs.DigitOnly.{digit-meets}
+use Rattle.recode.specs.DigitOnly.{digit-meets, digit-mod}
 use Rattle.recode.specs.OddDigit.{digit-small}
 use Rattle.recode.specs.Residue.{width}
 use Rattle.recode.specs.Row.{row, digit, rest}
@@ -71,7 +70,7 @@ module _ {bytes : List ℕ} {used m : ℕ} {out₀ : List ℕ} (g : Given bytes 
         stop m (little bytes) (length out₀) (g .one) (g .fits) out₀ refl
         (subst (λ (r : ℕ). Turn m (little bytes) (length out₀) r out place) (remaining-zero bytes s used (g .in-use) e) (st .1 .1))
 
-    module _ (s : Low) (going : s .low ≡ 0 → s .at < used) (bits : 6 ≤ s .bits) (st : State bytes m out₀ out s place) where
+    module _ (s : Low) (going : s .low ≡ 0 → s .at < used) (st : State bytes m out₀ out s place) where
       some : 0 < remaining bytes s
       some = remaining-some bytes s used (g .are-bytes) (g .in-use) going
 
@@ -89,14 +88,22 @@ module _ {bytes : List ℕ} {used m : ℕ} {out₀ : List ℕ} (g : Given bytes 
             ),
           )
 
+      -- and something is still left
+      pub still : (t : Low) (z : ℕ) → s .low ≡ 2 ^ z * (s .low / 2 ^ z) → t .at ≡ s .at → t .low ≡ s .low / 2 ^ z → t .low ≡ 0 → t .at < used
+      still t z e a l n =
+          let none : s .low ≡ 0 = e ∙ ap (λ (q : ℕ). 2 ^ z * q) (sym l ∙ n) ∙ omega arith in omega (arith, going none)
+
       narrow : width m ≤ 6
       narrow = width-least m (g .one) .1 6 (omega (arith, g .most))
 
       pub inside : place < length out
       inside = omega (arith, st .1 .0, room m (little bytes) (length out₀) (g .one) (g .fits) some (st .1 .1))
 
-      -- a digit d, of the low bits, is stored
-      module _ (d : ℤ) (is : d ≡ digit m (pos (s .low))) where
+      -- a digit d, of the lowest bits, is stored
+      module _ (bits : 6 ≤ s .bits) (d : ℤ) (of-lowest : d ≡ digit m (pos (s .low % 64))) where
+        is : d ≡ digit m (pos (s .low))
+        is = of-lowest ∙ digit-mod m 6 (pos (s .low % 64)) (pos (s .low)) (g .one) narrow (omega arith)
+
         pub small : natAbs d ≤ 31
         small = omega (arith, subst (λ (x : ℤ). natAbs x ≤ m) (sym is) (digit-small (g .one) (digit-meets m (pos (s .low)) (g .one))), g .most)
 

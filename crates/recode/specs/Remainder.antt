@@ -11,5 +11,5 @@ remaining bytes s = s .low + 2 ^ s .bits * little (drop (s .at) bytes)
 
 -- few low bits; a digit taken off may have carried into the next bit
 pub record Held (s : Low) : Type 0 where
-  pub few : s .bits ≤ 13
+  pub few : s .bits ≤ 47
   pub low : s .low ≤ 2 ^ s .bits + 31

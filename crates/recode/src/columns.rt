@@ -18,23 +18,14 @@ use crate::low::Low;
 fn turns(x: u16, y: u16) -> bool
     ensures { λ r. ⌜ r ≡ Joint.turns (pos x) (pos y) ⌝ }
 {
-    if y % 4 != 2 {
-        return false;
-    }
-    if x % 8 == 3 {
-        return true;
-    }
-    x % 8 == 5
+    ((x % 8 == 3) | (x % 8 == 5)) & (y % 4 == 2)
 }
 
-// The digit of x beside y in a joint column.
+// The digit of x beside y in a joint column, without a branch on what is chance.
 fn joint_digit(x: u16, y: u16) -> i16
     ensures { λ r. ⌜ r ≡ Joint.digit (pos x) (pos y) ⌝ }
 {
-    if x % 2 == 0 {
-        return 0;
-    }
-    let plain = crate::residue::residue_of(x, 2);
+    let plain = (x % 2) as i16 * (2 - (x % 4) as i16);
     if turns(x, y) { -plain } else { plain }
 }
 
@@ -74,8 +65,10 @@ fn write_columns(
         if both_ended(k_full, l_full, k_used, l_used) {
             return place;
         }
-        let k_digit = joint_digit(k_full.low, l_full.low);
-        let l_digit = joint_digit(l_full.low, k_full.low);
+        let x = k_full.lowest();
+        let y = l_full.lowest();
+        let k_digit = joint_digit(x, y);
+        let l_digit = joint_digit(y, x);
         k_out[place] = digits::byte_of(k_digit as i8);
         l_out[place] = digits::byte_of(l_digit as i8);
         let k_next = k_full.less(k_digit);

@@ -1,35 +1,41 @@
 ghost use mathlib.Core.Path.{_≡_};
-ghost use Prim.Native.Nat.{ℕ, _%_, _<_, _≤_};
+ghost use Prim.Native.Nat.{ℕ, _-_, _%_, _^_, _<_, _≤_};
 ghost use lib.IntN.{pos, natAbs, _-ℤ_};
 ghost use Rattle.digits.specs.Integer.{half};
 ghost use Rattle.recode.specs.Residue.{width};
 ghost use Rattle.recode.specs.Row.{digit};
 
-// |r|
-fn size_of(r: i16) -> u16
-    requires { ⌜ natAbs r ≤ 32 ⌝ }
-    ensures { λ s. ⌜ s ≡ natAbs r ⌝ }
+// 2^(W−1) of a window.
+pub fn half_of(m: u16) -> u16
+    requires { ⌜ m ≤ 31 ⌝ }
+    ensures { λ r. ⌜ r ≡ 2 ^ (width m - 1) ⌝ }
 {
-    if r < 0 { (-r) as u16 } else { r as u16 }
+    1u16 << (16 - u16::leading_zeros(m))
 }
 
-// The digit of an odd x for the window m, whose W is w.
-pub fn digit_of(x: u16, m: u16, w: u32) -> i16
-    requires { ⌜ (x % 2 ≡ 1) × ((1 ≤ m) × ((m ≤ 31) × (w ≡ width m))) ⌝ }
+// A half for an x from the limit on.
+fn half_from(x: u16, limit: u16, half: u16) -> u16
+    ensures { λ r. ⌜ (x < limit → r ≡ 0) × (limit ≤ x → r ≡ half) ⌝ }
+{
+    if x < limit { 0 } else { half }
+}
+
+// The digit of an odd x below 64 for the window m, whose 2^(W−1) is half: x modulo 2^W, less a half beyond m, and less
+// another from 2^W − m on.
+pub fn digit_of(x: u16, m: u16, half: u16) -> i16
+    requires { ⌜ (x < 64) × ((x % 2 ≡ 1) × ((1 ≤ m) × ((m ≤ 31) × (half ≡ 2 ^ (width m - 1))))) ⌝ }
     ensures { λ r. ⌜ r ≡ digit m (pos x) ⌝ }
 {
-    let r = crate::residue::residue_of(x, w);
-    if size_of(r) <= m {
-        r
-    } else {
-        crate::residue::residue_of(x, w - 1)
-    }
+    let low = x & (2 * half - 1);
+    let first = half_from(low, m + 1, half);
+    let second = half_from(low, 2 * half - m, half);
+    low as i16 - (first + second) as i16
 }
 
 // What a digit leaves of x: (x − digit)/2.
-pub fn rest_of(x: u16, digit: i16) -> u16
-    requires { ⌜ (x ≤ 16384) × ((natAbs digit ≤ 32) × ((k : ℕ) × (half (pos x -ℤ digit) ≡ pos k))) ⌝ }
+pub fn rest_of(x: u64, digit: i16) -> u64
+    requires { ⌜ (x ≤ 2 ^ 48) × ((natAbs digit ≤ 32) × ((k : ℕ) × (half (pos x -ℤ digit) ≡ pos k))) ⌝ }
     ensures { λ r. ⌜ pos r ≡ half (pos x -ℤ digit) ⌝ }
 {
-    ((x as i16 - digit) / 2) as u16
+    ((x as i64 - digit as i64) / 2) as u64
 }

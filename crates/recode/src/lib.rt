@@ -4,7 +4,6 @@ mod buffer;
 mod columns;
 mod digit;
 mod low;
-mod residue;
 mod rows;
 
 pub use answer::Recoded;

@@ -1,26 +1,37 @@
 ghost use mathlib.Core.Path.{_≡_};
 ghost use Prim.Native.Nat.{ℕ, _+_, _*_, _/_, _%_, _^_, _<_, _≤_};
-ghost use lib.ListN.{getD};
+ghost use lib.ListN.{length, getD, drop};
 ghost use lib.IntN.{pos, natAbs, _-ℤ_};
 ghost use Rattle.digits.specs.Integer.{half};
+ghost use Rattle.digits.specs.Scalar.{little};
 ghost use Rattle.recode.specs.Remainder.{remaining, Held};
 
 // The low bits of a running remainder, which is low + 2^bits × the bytes from `at` on.
 pub struct Low {
     pub at: usize,
     pub bits: u32,
-    pub low: u16,
+    pub low: u64,
 }
 
 // The byte at a place, and 0 past the end.
-fn byte_at(bytes: &[u8], at: usize) -> u16
+fn byte_at(bytes: &[u8], at: usize) -> u64
     ensures { λ r. ⌜ (r ≡ getD (now (bytes .entry)) at 0) × (r < 256) ⌝ }
 {
     if at < bytes.len() {
-        bytes[at] as u16
+        bytes[at] as u64
     } else {
         0
     }
+}
+
+// Four bytes as one number, the least significant first, and zeros past the end.
+fn word_at(bytes: &[u8], at: usize) -> u64
+    requires { ⌜ at < length (now bytes) ⌝ }
+    ensures { λ r. ⌜ (r < 2 ^ 32) × (r + 2 ^ 32 * little (drop (at + 4) (now (bytes .entry))) ≡ little (drop at (now (bytes .entry)))) ⌝ }
+{
+    let first = byte_at(bytes, at) + 256 * byte_at(bytes, at + 1);
+    let second = byte_at(bytes, at + 2) + 256 * byte_at(bytes, at + 3);
+    first + 65536 * second
 }
 
 impl Low {
@@ -35,41 +46,48 @@ impl Low {
         }
     }
 
-    // The same remainder with at least 6 low bits.
+    // The same remainder with at least 16 low bits.
     pub fn filled(self, bytes: &[u8]) -> Self
         requires { ⌜ Held self ⌝ }
-        ensures { λ r. ⌜ (remaining (now (bytes .entry)) r ≡ remaining (now (bytes .entry)) self) × (Held r × (6 ≤ r .bits)) ⌝ }
+        ensures { λ r. ⌜ (remaining (now (bytes .entry)) r ≡ remaining (now (bytes .entry)) self) × (Held r × (16 ≤ r .bits)) ⌝ }
     {
         let at = self.at;
         let bits = self.bits;
-        if 6 <= bits {
+        if 16 <= bits {
             return self;
         }
         if bytes.len() <= at {
             return Low {
                 at: at,
-                bits: bits + 8,
+                bits: bits + 32,
                 low: self.low,
             };
         }
-        let byte = byte_at(bytes, at);
+        let word = word_at(bytes, at);
         Low {
-            at: at + 1,
-            bits: bits + 8,
-            low: self.low + (byte << bits),
+            at: at + 4,
+            bits: bits + 32,
+            low: self.low + (word << bits),
         }
+    }
+
+    // The lowest 6 bits, which tell the digit.
+    pub fn lowest(self) -> u16
+        ensures { λ r. ⌜ r ≡ self .low % 64 ⌝ }
+    {
+        (self.low % 64) as u16
     }
 
     // How many of the low bits are zeros below the first one: all of them where there is none.
     pub fn zeros(self) -> u32
-        requires { ⌜ Held self × (6 ≤ self .bits) ⌝ }
-        ensures { λ r. ⌜ (r ≤ self .bits) × ((self .low ≡ 2 ^ r * (self .low / 2 ^ r)) × (r ≡ 0 → self .low % 2 ≡ 1)) ⌝ }
+        requires { ⌜ Held self × (16 ≤ self .bits) ⌝ }
+        ensures { λ r. ⌜ (r ≤ self .bits) × ((self .low ≡ 2 ^ r * (self .low / 2 ^ r)) × (r < self .bits → self .low / 2 ^ r % 2 ≡ 1)) ⌝ }
     {
         let low = self.low;
         if low == 0 {
             self.bits
         } else {
-            u16::trailing_zeros(low)
+            u64::trailing_zeros(low)
         }
     }
 

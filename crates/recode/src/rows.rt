@@ -1,6 +1,6 @@
 ghost use mathlib.Core.Path.{_≡_};
 ghost use mathlib.Core.Bool.{true, false};
-ghost use Prim.Native.Nat.{_+_, _*_, _/_, _<_, _≤_};
+ghost use Prim.Native.Nat.{_+_, _-_, _*_, _/_, _^_, _<_, _≤_};
 ghost use lib.IntN.{pos};
 ghost use lib.ListN.{length, replicate};
 ghost use Rattle.digits.specs.Limits.{card};
@@ -24,9 +24,9 @@ pub fn ended(low: Low, used: usize) -> bool
 }
 
 // Writes the row of the bytes' number into places that hold 0, and returns its length. `used` counts the bytes up to the
-// top one that is not 0, and w is W of the window m.
-fn write_digits(bytes: &[u8], used: usize, m: u16, w: u32, out: &mut [u8]) -> usize
-    requires { ⌜ (1 ≤ m) × ((m ≤ 31) × (w ≡ width m)) ⌝ }
+// top one that is not 0, and half is 2^(W−1) of the window m.
+fn write_digits(bytes: &[u8], used: usize, m: u16, half: u16, out: &mut [u8]) -> usize
+    requires { ⌜ (1 ≤ m) × ((m ≤ 31) × (half ≡ 2 ^ (width m - 1))) ⌝ }
     requires { ⌜ used ≡ (bitLength (little (now bytes)) + 7) / 8 ⌝ }
     requires { ⌜ (now out ≡ replicate (length (now out)) 0) × (length (row m (pos (little (now bytes)))) ≤ length (now out)) ⌝ }
     ensures { λ r. ⌜ r ≡ length (row m (pos (little (now (bytes .entry))))) ⌝ }
@@ -40,17 +40,17 @@ fn write_digits(bytes: &[u8], used: usize, m: u16, w: u32, out: &mut [u8]) -> us
             return place;
         }
         let zeros = full.zeros();
-        if zeros == 0 {
-            let digit = crate::digit::digit_of(full.low, m, w);
-            out[place] = digits::byte_of(digit as i8);
-            let next = full.less(digit);
-            low = next;
-            place += 1;
-        } else {
-            let next = full.shifted(zeros);
-            low = next;
-            place += zeros as usize;
+        let odd = full.shifted(zeros);
+        place += zeros as usize;
+        if odd.bits < 6 {
+            low = odd;
+            continue;
         }
+        let digit = crate::digit::digit_of(odd.lowest(), m, half);
+        out[place] = digits::byte_of(digit as i8);
+        let next = odd.less(digit);
+        low = next;
+        place += 1;
     }
 }
 
@@ -75,8 +75,8 @@ fn write_row(scalar: &[u8], m: u16, out: &mut [u8]) -> usize
     let places = bits + 1;
     let bytes = crate::buffer::copied(scalar);
     crate::buffer::clear(out);
-    let w = crate::residue::width_of(m);
-    write_digits(&bytes, used, m, w, &mut out[..places])
+    let half = crate::digit::half_of(m);
+    write_digits(&bytes, used, m, half, &mut out[..places])
 }
 
 // The row of a scalar for the window m: its digits, from place 0 on, in bytes of two's complement.

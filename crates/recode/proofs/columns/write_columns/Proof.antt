@@ -1,7 +1,7 @@
 -- `write_columns` meets its contract. The loop's invariant: the columns that stand in the buffers, followed by those of the
 -- remainders, are all columns (JointLoop). The measure is the number of places left.
-use mathlib.Core.Path.{_≡_, refl, sym, ap, subst, _∙_}
-use Prim.Native.Nat.{ℕ, _+_, _-_, _≤_, _<_}
+use mathlib.Core.Path.{_≡_, sym, ap, ap₂, subst, _∙_}
+use Prim.Native.Nat.{ℕ, _+_, _-_, _%_, _≤_, _<_}
 use native.Mathlib.Omega.{arith}
 use borrow.Author.Needs.{needs}
 use lib.IntN.{ℤ, pos, natAbs, _-ℤ_}
@@ -64,7 +64,7 @@ module _ (d : ℤ) (h : natAbs d ≤ 1) where
   as-byte = ap (λ (x : ℤ). toZ w8 (ofZ w8 x)) same ∙ toZ-ofZ fits-byte
 
   -- what `less` asks of it, and what it says
-  less-asks : (s : Low) → Held s → 6 ≤ s .bits → (k : ℕ) × (half (pos (s .low) -ℤ d) ≡ pos k)
+  less-asks : (s : Low) → Held s → 16 ≤ s .bits → (k : ℕ) × (half (pos (s .low) -ℤ d) ≡ pos k)
       → Held s × ((1 ≤ s .bits) × ((natAbs (toZ w16 (ofZ w16 d)) ≤ 31) × ((k : ℕ) × (half (pos (s .low) -ℤ toZ w16 (ofZ w16 d)) ≡ pos k))))
   less-asks s g b k =
       (g, (omega arith, subst (λ (x : ℤ). (natAbs x ≤ 31) × ((k : ℕ) × (half (pos (s .low) -ℤ x) ≡ pos k))) (sym same) (omega arith, k)))
@@ -103,6 +103,12 @@ returns c =
     let e = finish (given (f .before .before .before)) (f .before .filled .result) (f .filled2 .result) (c .before .both-ended .ensures .0 (c .if1 .taken)) (full f) in
     (e .0, (e .1 P, e .1 Q))
 
+lowest-requires : tie.Need-lowest-requires Inv-loop μ-loop
+lowest-requires c κs = search needs
+
+lowest-requires-2 : tie.Need-lowest-requires-2 Inv-loop μ-loop
+lowest-requires-2 c κs = search needs
+
 joint-digit-requires : tie.Need-joint-digit-requires Inv-loop μ-loop
 joint-digit-requires c κs = search needs
 
@@ -110,20 +116,26 @@ joint-digit-requires-2 : tie.Need-joint-digit-requires-2 Inv-loop μ-loop
 joint-digit-requires-2 c κs = search needs
 
 module _ (c : tie.After-joint-digit2 Inv-loop μ-loop) where
+  k-digit : c .before .joint-digit .result ≡ digit (pos (c .before .before .before .before .before .before .before .filled .result .low % 64)) (pos (c .before .before .before .before .before .before .filled2 .result .low % 64))
+  k-digit = c .before .joint-digit .ensures ∙ ap₂ (λ (x y : ℕ). digit (pos x) (pos y)) (c .before .before .before .lowest .ensures) (c .before .before .lowest2 .ensures)
+
+  l-digit : c .joint-digit2 .result ≡ digit (pos (c .before .before .before .before .before .before .filled2 .result .low % 64)) (pos (c .before .before .before .before .before .before .before .filled .result .low % 64))
+  l-digit = c .joint-digit2 .ensures ∙ ap₂ (λ (x y : ℕ). digit (pos x) (pos y)) (c .before .before .lowest2 .ensures) (c .before .before .before .lowest .ensures)
+
   k-tiny : natAbs (c .before .joint-digit .result) ≤ 1
   k-tiny =
-      let f = c .before .before .before .before in
-      small (f .before .before .before .before .before .before .before .before .before .args .k .now) (f .before .before .before .before .before .before .before .before .before .args .l .now) (f .before .filled .result) (f .filled2 .result) (c .before .joint-digit .result) (c .before .joint-digit .ensures)
+      let f = c .before .before .before .before .before .before in
+      small (f .before .before .before .before .before .before .before .before .before .args .k .now) (f .before .before .before .before .before .before .before .before .before .args .l .now) (f .before .filled .result) (f .filled2 .result) (c .before .joint-digit .result) k-digit
 
   l-tiny : natAbs (c .joint-digit2 .result) ≤ 1
   l-tiny =
-      let f = c .before .before .before .before in
-      small (f .before .before .before .before .before .before .before .before .before .args .l .now) (f .before .before .before .before .before .before .before .before .before .args .k .now) (f .filled2 .result) (f .before .filled .result) (c .joint-digit2 .result) (c .joint-digit2 .ensures)
+      let f = c .before .before .before .before .before .before in
+      small (f .before .before .before .before .before .before .before .before .before .args .l .now) (f .before .before .before .before .before .before .before .before .before .args .k .now) (f .filled2 .result) (f .before .filled .result) (c .joint-digit2 .result) l-digit
 
-  within : c .before .before .before .before .before .before .loop .place < length (c .before .before .before .before .before .before .before .before .before .before .before .before .before .args .k-out .now)
+  within : c .before .before .before .before .before .before .before .before .loop .place < length (c .before .before .before .before .before .before .before .before .before .before .before .before .before .before .before .args .k-out .now)
   within =
-      let f = c .before .before .before .before in
-      inside (given (f .before .before .before)) (f .before .filled .result) (f .filled2 .result) (c .before .before .before .both-ended .ensures .1 (c .before .before .if1 .left)) (full f)
+      let f = c .before .before .before .before .before .before in
+      inside (given (f .before .before .before)) (f .before .filled .result) (f .filled2 .result) (c .before .before .before .before .before .both-ended .ensures .1 (c .before .before .before .before .if1 .left)) (full f)
 
 cast-byte-of : tie.Need-cast-byte-of Inv-loop μ-loop
 cast-byte-of c = cast-fits (c .before .joint-digit .result) (k-tiny c)
@@ -132,7 +144,7 @@ byte-of-requires : tie.Need-byte-of-requires Inv-loop μ-loop
 byte-of-requires c κs = search needs
 
 slice-write-k-out : tie.Need-slice-write-k-out Inv-loop μ-loop
-slice-write-k-out c = omega (arith, within (c .before), c .before .before .before .before .before .before .before .loop .inv .k-long)
+slice-write-k-out c = omega (arith, within (c .before), c .before .before .before .before .before .before .before .before .before .loop .inv .k-long)
 
 cast-byte-of-2 : tie.Need-cast-byte-of-2 Inv-loop μ-loop
 cast-byte-of-2 c = cast-fits (c .before .joint-digit2 .result) (l-tiny (c .before))
@@ -141,36 +153,36 @@ byte-of-requires-2 : tie.Need-byte-of-requires-2 Inv-loop μ-loop
 byte-of-requires-2 c κs = search needs
 
 slice-write-l-out : tie.Need-slice-write-l-out Inv-loop μ-loop
-slice-write-l-out c = omega (arith, within (c .before .before), c .before .before .before .before .before .before .before .before .loop .inv .l-long)
+slice-write-l-out c = omega (arith, within (c .before .before), c .before .before .before .before .before .before .before .before .before .before .loop .inv .l-long)
 
 less-requires : tie.Need-less-requires Inv-loop μ-loop
 less-requires c κs =
     let d = c .before .before in
-    let f = d .before .before .before .before in
+    let f = d .before .before .before .before .before .before in
     less-asks (d .before .joint-digit .result) (k-tiny d) (f .before .filled .result) (f .before .filled .ensures .1 .0) (f .before .filled .ensures .1 .1)
-    (halved (f .before .before .before .before .before .before .before .before .before .args .k .now) (f .before .before .before .before .before .before .before .before .before .args .l .now) (f .before .filled .result) (f .filled2 .result) (d .before .joint-digit .result) (d .before .joint-digit .ensures))
+    (halved (f .before .before .before .before .before .before .before .before .before .args .k .now) (f .before .before .before .before .before .before .before .before .before .args .l .now) (f .before .filled .result) (f .filled2 .result) (d .before .joint-digit .result) (k-digit d))
 
 less-requires-2 : tie.Need-less-requires-2 Inv-loop μ-loop
 less-requires-2 c κs =
     let d = c .before .before .before in
-    let f = d .before .before .before .before in
+    let f = d .before .before .before .before .before .before in
     less-asks (d .joint-digit2 .result) (l-tiny d) (f .filled2 .result) (f .filled2 .ensures .1 .0) (f .filled2 .ensures .1 .1)
-    (halved (f .before .before .before .before .before .before .before .before .before .args .l .now) (f .before .before .before .before .before .before .before .before .before .args .k .now) (f .filled2 .result) (f .before .filled .result) (d .joint-digit2 .result) (d .joint-digit2 .ensures))
+    (halved (f .before .before .before .before .before .before .before .before .before .args .l .now) (f .before .before .before .before .before .before .before .before .before .args .k .now) (f .filled2 .result) (f .before .filled .result) (d .joint-digit2 .result) (l-digit d))
 
 add-place : tie.Need-add-place Inv-loop μ-loop
-add-place c = omega (arith, within (c .before .before .before .before), c .before .before .before .before .before .before .before .before .before .before .before .before .before .before .before .before .before .good)
+add-place c = omega (arith, within (c .before .before .before .before), c .before .before .before .before .before .before .before .before .before .before .before .before .before .before .before .before .before .before .before .good)
 
 loop-less : tie.Need-loop-less Inv-loop μ-loop
-loop-less c = simp length-set (omega (arith, within (c .before .before .before .before), c .before .before .before .before .before .before .before .before .before .before .loop .inv .k-long))
+loop-less c = simp length-set (omega (arith, within (c .before .before .before .before), c .before .before .before .before .before .before .before .before .before .before .before .before .loop .inv .k-long))
 
 loop-again : tie.Need-loop-again Inv-loop μ-loop
 loop-again c =
     let d = c .before .before .before .before in
-    let f = d .before .before .before .before in
+    let f = d .before .before .before .before .before .before in
     let s = f .before .filled .result in
     let t = f .filled2 .result in
-    stored (given (f .before .before .before)) s t (d .before .before .before .both-ended .ensures .1 (d .before .before .if1 .left)) (full f) (f .before .filled .ensures .1 .1) (f .filled2 .ensures .1 .1)
-    (d .before .joint-digit .result) (d .joint-digit2 .result) (d .before .joint-digit .ensures) (d .joint-digit2 .ensures)
+    stored (given (f .before .before .before)) s t (d .before .before .before .before .before .both-ended .ensures .1 (d .before .before .before .before .if1 .left)) (full f) (omega (arith, f .before .filled .ensures .1 .1)) (omega (arith, f .filled2 .ensures .1 .1))
+    (d .before .joint-digit .result) (d .joint-digit2 .result) (k-digit d) (l-digit d)
     (c .before .before .before .byte-of .result) (c .before .before .byte-of2 .result)
     (c .before .before .before .byte-of .ensures ∙ ap byteOf (as-byte (d .before .joint-digit .result) (k-tiny d)))
     (c .before .before .byte-of2 .ensures ∙ ap byteOf (as-byte (d .joint-digit2 .result) (l-tiny d)))
@@ -192,6 +204,8 @@ write-columns-spec =
     same-length
     same-length-2
     returns
+    lowest-requires
+    lowest-requires-2
     joint-digit-requires
     joint-digit-requires-2
     cast-byte-of

@@ -1,101 +1,115 @@
--- `digit_of` meets its contract: the residue for W where it is within the window, and that for W − 1 where not.
-use mathlib.Core.Path.{_≡_, refl, sym, ap, subst, _∙_}
-use mathlib.Core.Bool.{cond, true, false}
-use Prim.Native.Nat.{ℕ, zero, suc, _-_, _%_, _^_, _≤_, _<_}
-use native.Mathlib.Nat.{lt-trans}
+-- `digit_of` meets its contract: what it takes is `chosen` (Window), which is the digit.
+use mathlib.Core.Path.{_≡_, sym, ap, ap₂, subst, _∙_}
+use Prim.Native.Nat.{ℕ, _+_, _-_, _*_, _%_, _≤_, _<_}
+use native.Mathlib.Nat.{mod-lt}
 use native.Mathlib.Omega.{arith}
-use borrow.Author.Tests.{ne-eqb, le-leb, lt-leb}
-use lib.Dec.{eqb}
-use lib.IntN.{ℤ, pos, natAbs}
-use lib.Pow.{pow-mono}
+use borrow.Author.Needs.{needs}
+use lib.Bits.{bitAnd}
+use lib.IntN.{ℤ, pos, _-ℤ_}
 use mir.Syntax.{w16}
-use borrow.Author.Needs.{sfits-of}
-use mir.Val.{toZ, ofZ}
-use mir.Facts.{toZ-ofZ}
-use Rattle.digits.specs.Machine.{read-back}
-use Rattle.digits.specs.Integer.{size}
-use Rattle.recode.specs.Residue.{residue, width, Residue}
-use Rattle.recode.specs.ResidueOnly.{residue-meets}
-use Rattle.recode.specs.Row.{digit, within}
-use Rattle.recode.specs.Width.{width-is, width-least}
+use mir.Val.{SFits, toZ, ofZ}
+use mir.Facts.{toZ-pos, toZ-ofZ}
+use Rattle.digits.specs.Integer.{difference, one-side}
+use Rattle.digits.specs.Machine.{small-fits}
+use Rattle.recode.specs.Row.{digit}
+use Rattle.recode.proofs.Window.{half-bounds, masked, halfFrom, half-from, half-most, chosen, chosen-is}
 use Rattle.recode.proofs.digit.digit_of.Statement.{statement}
 use Rattle.recode.proofs.digit.digit_of.Tie as tie
 
-bounds : (m : ℕ) → 1 ≤ m → m ≤ 31 → (2 ≤ width m) × (width m ≤ 6)
-bounds m h l = (omega (arith, width-is m h .is), width-least m h .1 6 (omega arith))
+-- a difference of small numbers, as the machine has it
+module _ (a b : ℕ) (h : a ≤ 64) (l : b ≤ 64) where
+  plain : toZ w16 a -ℤ toZ w16 b ≡ pos a -ℤ pos b
+  plain = ap₂ (λ (y z : ℤ). y -ℤ z) (toZ-pos w16 {n = a} (omega arith)) (toZ-pos w16 {n = b} (omega arith))
 
--- a residue for at most 6 bits is below 32 in size
-small : (w : ℕ) (x : ℕ) → 2 ≤ w → w ≤ 6 → x % 2 ≡ 1 → natAbs (residue w (pos x)) ≤ 32
-small w x h l o =
-    let five : w - 1 ≤ 5 = omega arith in
-    let b : 2 ^ (w - 1) ≤ 32 = pow-mono {j = 5} five in
-    omega (arith, residue-meets w (pos x) h o .between)
+  fits : SFits w16 (toZ w16 a -ℤ toZ w16 b)
+  fits =
+      subst (SFits w16) (sym plain) (small-fits (pos a -ℤ pos b) (omega (arith, difference (pos a) (pos b), one-side (pos a -ℤ pos b))))
 
-read : (z : ℤ) → natAbs z ≤ 32 → toZ w16 (ofZ w16 z) ≡ z
-read z h = read-back z (omega (arith, size z))
+  read : toZ w16 (ofZ w16 (toZ w16 a -ℤ toZ w16 b)) ≡ pos a -ℤ pos b
+  read = toZ-ofZ fits ∙ plain
 
-odd : (m x : ℕ) → x % 2 ≡ 1 → digit m (pos x) ≡ within m (pos x) (residue (width m) (pos x))
-unfolding digit
-odd m x o = rw (ne-eqb (x % 2) 0 (omega arith))
+module _ (c : tie.Start) where
+  bounds : (c .args .m < c .args .half) × (c .args .half ≤ 32)
+  bounds = let p = c .pre in half-bounds (c .args .m) (c .args .half) (p .1 .1 .0) (p .1 .1 .1 .0) (p .1 .1 .1 .1)
 
--- the digit, where the residue for W is within the window, and where it is not
-kept : (m x w : ℕ) (r : ℤ) → x % 2 ≡ 1 → w ≡ width m → r ≡ residue w (pos x) → natAbs r ≤ m → r ≡ digit m (pos x)
-kept m x w r o e q l =
-    let here : r ≡ residue (width m) (pos x) = q ∙ ap (λ (n : ℕ). residue n (pos x)) e in
-    sym (odd m x o ∙ ap (within m (pos x)) (sym here) ∙ rw (le-leb (natAbs r) m l))
+  low-is : bitAnd (c .args .x) (2 * c .args .half - 1) ≡ c .args .x % (2 * c .args .half)
+  low-is = let p = c .pre in masked (c .args .m) (c .args .half) (p .1 .1 .0) (p .1 .1 .1 .0) (p .1 .1 .1 .1) (c .args .x)
 
-again : (m x w : ℕ) (r s : ℤ) → x % 2 ≡ 1 → w ≡ width m → r ≡ residue w (pos x) → m < natAbs r → s ≡ residue (w - 1) (pos x) → s ≡ digit m (pos x)
-again m x w r s o e q l p =
-    let here : r ≡ residue (width m) (pos x) = q ∙ ap (λ (n : ℕ). residue n (pos x)) e in
-    p ∙ ap (λ (n : ℕ). residue (n - 1) (pos x)) e ∙ sym (odd m x o ∙ ap (within m (pos x)) (sym here) ∙ rw (lt-leb (natAbs r) m l))
+  small : bitAnd (c .args .x) (2 * c .args .half - 1) ≤ 64
+  small = omega (arith, low-is, bounds, mod-lt (c .args .x) {m = 2 * c .args .half} (omega (arith, bounds)))
 
-residue-of-requires : tie.Need-residue-of-requires
-residue-of-requires c κs = omega (arith, bounds (c .args .m) (c .pre .1 .0) (c .pre .1 .1 .0))
+  found : chosen (c .args .m) (c .args .half) (bitAnd (c .args .x) (2 * c .args .half - 1)) ≡ digit (c .args .m) (pos (c .args .x))
+  found =
+      let p = c .pre in
+      ap (chosen (c .args .m) (c .args .half)) low-is
+      ∙ chosen-is (c .args .m) (c .args .half) (c .args .x) (p .1 .1 .0) (p .1 .1 .1 .0) (p .1 .1 .1 .1) (p .0) (p .1 .0)
 
-module _ (c : tie.After-residue-of) where
-  -- the machine reads the residue back as it is
-  whole : natAbs (c .residue-of .result) ≤ 32
-  whole =
-      let p = c .before .pre in
-      let b = bounds (c .before .args .m) (p .1 .0) (p .1 .1 .0) in
-      subst (λ (z : ℤ). natAbs z ≤ 32) (sym (c .residue-of .ensures))
-      (small (c .before .args .w) (c .before .args .x) (omega arith) (omega arith) (p .0))
+-- the halves taken off
+module _ (c : tie.After-half-from2) where
+  halves : c .before .half-from .result + c .half-from2 .result ≡ halfFrom (bitAnd (c .before .before .args .x) (2 * c .before .before .args .half - 1)) (c .before .before .args .m + 1) (c .before .before .args .half) + halfFrom (bitAnd (c .before .before .args .x) (2 * c .before .before .args .half - 1)) (2 * c .before .before .args .half - c .before .before .args .m) (c .before .before .args .half)
+  halves =
+      ap₂ (λ (a b : ℕ). a + b) (half-from _ _ _ (c .before .half-from .result) (c .before .half-from .ensures))
+      (half-from _ _ _ (c .half-from2 .result) (c .half-from2 .ensures))
 
-  back : toZ w16 (ofZ w16 (c .residue-of .result)) ≡ c .residue-of .result
-  back = read (c .residue-of .result) whole
+  few : c .before .half-from .result + c .half-from2 .result ≤ 64
+  few =
+      let a = c .before .before .args in
+      let low = bitAnd (a .x) (2 * a .half - 1) in
+      omega (arith, halves, bounds (c .before .before), half-most low (a .m + 1) (a .half), half-most low (2 * a .half - a .m) (a .half))
 
-size-of-requires : tie.Need-size-of-requires
-size-of-requires c κs = subst (λ (z : ℤ). natAbs z ≤ 32) (sym (back c)) (whole c)
+mul-low : tie.Need-mul-low
+mul-low c = omega (arith, bounds c)
 
-module _ (c : tie.After-size-of) where
-  sized : c .size-of .result ≡ natAbs (c .before .residue-of .result)
-  sized = c .size-of .ensures ∙ ap natAbs (back (c .before))
+sub-low : tie.Need-sub-low
+sub-low c = omega (arith, bounds c)
+
+add-half-from : tie.Need-add-half-from
+add-half-from c = search needs
+
+half-from-requires : tie.Need-half-from-requires
+half-from-requires c κs = search needs
+
+mul-half-from : tie.Need-mul-half-from
+mul-half-from c = omega (arith, bounds (c .before))
+
+sub-half-from : tie.Need-sub-half-from
+sub-half-from c = omega (arith, bounds (c .before))
+
+half-from-requires-2 : tie.Need-half-from-requires-2
+half-from-requires-2 c κs = search needs
+
+cast-result : tie.Need-cast-result
+cast-result c = small-fits (pos _) (omega (arith, small (c .before .before)))
+
+add-result : tie.Need-add-result
+add-result c = omega (arith, few c)
+
+cast-result-2 : tie.Need-cast-result-2
+cast-result-2 c = small-fits (pos _) (omega (arith, few c))
+
+sub-result : tie.Need-sub-result
+sub-result c = fits _ _ (small (c .before .before)) (few c)
 
 returns : tie.Need-returns
 returns c =
-    let r = c .before .before in
-    back r
-    ∙ kept (r .before .args .m) (r .before .args .x) (r .before .args .w) (r .residue-of .result) (r .before .pre .0) (r .before .pre .1 .1 .1)
-    (r .residue-of .ensures) (omega (arith, sized (c .before)))
-
-sub-residue-of : tie.Need-sub-residue-of
-sub-residue-of c =
-    let p = c .before .before .before .pre in
-    omega (arith, bounds (c .before .before .before .args .m) (p .1 .0) (p .1 .1 .0))
-
-residue-of-requires-2 : tie.Need-residue-of-requires-2
-residue-of-requires-2 c κs =
-    let p = c .before .before .before .pre in
-    omega (arith, bounds (c .before .before .before .args .m) (p .1 .0) (p .1 .1 .0))
-
-returns-2 : tie.Need-returns-2
-returns-2 c =
-    let r = c .before .before .before in
-    toZ-ofZ (sfits-of (c .residue-of2 .ok))
-    ∙ again (r .before .args .m) (r .before .args .x) (r .before .args .w) (r .residue-of .result) (c .residue-of2 .result) (r .before .pre .0)
-    (r .before .pre .1 .1 .1) (r .residue-of .ensures) (omega (arith, sized (c .before .before))) (c .residue-of2 .ensures)
+    let a = c .before .before .args in
+    read _ _ (small (c .before .before)) (few c)
+    ∙ ap (λ (n : ℕ). pos (bitAnd (a .x) (2 * a .half - 1)) -ℤ pos n) (halves c)
+    ∙ found (c .before .before)
 
 pub digit-of-spec : {M : Type 1} → statement M
 digit-of-spec =
     tie.close
-    (tie.spec residue-of-requires size-of-requires sub-residue-of residue-of-requires-2 returns returns-2)
+    (tie.spec
+    mul-low
+    sub-low
+    add-half-from
+    half-from-requires
+    mul-half-from
+    sub-half-from
+    half-from-requires-2
+    cast-result
+    add-result
+    cast-result-2
+    sub-result
+    returns)

@@ -1,15 +1,14 @@
 -- `rest_of` meets its contract: x − digit is not negative, so the machine halves it as `half` does.
 use mathlib.Core.Path.{_≡_, refl, sym, ap, ap₂, subst, _∙_}
-use Prim.Native.Nat.{ℕ, suc, _+_, _/_, _<_, _≤_}
-use borrow.Author.Needs.{needs}
+use Prim.Native.Nat.{ℕ, _+_, _/_, _^_, _<_, _≤_}
 use native.Mathlib.Omega.{arith}
 use lib.IntN.{ℤ, pos, negsuc, _-ℤ_, natAbs, pos-ne-negsuc}
 use lib.Signed.{quotZ}
-use mir.Syntax.{w16}
+use mir.Syntax.{w16, w64}
 use mir.Val.{SFits, toZ, ofZ}
 use mir.Facts.{toZ-ofZ, toZ-pos}
-use Rattle.digits.specs.Integer.{up, down, half, integers, difference, size, one-side}
-use Rattle.digits.specs.Machine.{small-fits, read-back, cast-of}
+use Rattle.digits.specs.Integer.{up, down, half, difference, size, mag-size, one-side}
+use Rattle.digits.specs.Machine.{cast-of}
 use Rattle.recode.proofs.digit.rest_of.Statement.{statement}
 use Rattle.recode.proofs.digit.rest_of.Tie as tie
 
@@ -19,66 +18,66 @@ unfolding half
 natural (pos n) k e = refl
 natural (negsuc n) k e = absurd (pos-ne-negsuc k (n / 2) (sym e))
 
-module _ (x : ℕ) (d : ℤ) (hx : x ≤ 16384) (hd : natAbs d ≤ 32) (half-is : (k : ℕ) × (half (pos x -ℤ d) ≡ pos k)) (f : SFits w16 d) where
+fits-long : (z : ℤ) → up z + down z < 2 ^ 63 → SFits w64 z
+fits-long z h = record { sfits = omega (arith, mag-size z) }
+
+module _ (x : ℕ) (d : ℤ) (hx : x ≤ 2 ^ 48) (hd : natAbs d ≤ 32) (half-is : (k : ℕ) × (half (pos x -ℤ d) ≡ pos k)) (f : SFits w16 d) where
   exact : pos x -ℤ d ≡ pos (natAbs (pos x -ℤ d))
   exact = natural (pos x -ℤ d) (half-is .0) (half-is .1)
 
-  small : natAbs (pos x -ℤ d) < 16500
+  small : natAbs (pos x -ℤ d) < 2 ^ 49
   small =
       omega (arith, difference (pos x) d, size (pos x -ℤ d), size d, one-side d, one-side (pos x -ℤ d))
 
-  -- what the machine subtracts is x − d, a natural number
-  subtracted : toZ w16 x -ℤ toZ w16 (ofZ w16 d) ≡ pos (natAbs (pos x -ℤ d))
-  subtracted = ap₂ (λ (a b : ℤ). a -ℤ b) (toZ-pos w16 (omega arith)) (toZ-ofZ f) ∙ exact
+  -- the digit in 64 bits
+  long : SFits w64 (toZ w16 (ofZ w16 d))
+  long = subst (SFits w64) (sym (toZ-ofZ f)) (fits-long d (omega (arith, size d)))
 
-  read : toZ w16 (ofZ w16 (toZ w16 x -ℤ toZ w16 (ofZ w16 d))) ≡ pos (natAbs (pos x -ℤ d))
-  read =
-      ap (λ (z : ℤ). toZ w16 (ofZ w16 z)) subtracted ∙ read-back (pos (natAbs (pos x -ℤ d))) (omega (arith, small))
+  -- what the machine subtracts is x − d, a natural number
+  subtracted : toZ w64 x -ℤ toZ w64 (ofZ w64 (toZ w16 (ofZ w16 d))) ≡ pos (natAbs (pos x -ℤ d))
+  subtracted =
+      ap₂ (λ (a b : ℤ). a -ℤ b) (toZ-pos w64 {n = x} (omega arith)) (toZ-ofZ long ∙ toZ-ofZ f) ∙ exact
+
+  fits-whole : SFits w64 (toZ w64 x -ℤ toZ w64 (ofZ w64 (toZ w16 (ofZ w16 d))))
+  fits-whole = subst (SFits w64) (sym subtracted) (fits-long (pos (natAbs (pos x -ℤ d))) (omega (arith, small)))
 
   -- and what it divides is the half
-  divided : quotZ (toZ w16 (ofZ w16 (toZ w16 x -ℤ toZ w16 (ofZ w16 d)))) (pos 2) ≡ pos (natAbs (pos x -ℤ d) / 2)
-  divided = ap (λ (z : ℤ). quotZ z (pos 2)) read
+  divided : quotZ (toZ w64 (ofZ w64 (toZ w64 x -ℤ toZ w64 (ofZ w64 (toZ w16 (ofZ w16 d)))))) (pos 2) ≡ pos (natAbs (pos x -ℤ d) / 2)
+  divided = ap (λ (z : ℤ). quotZ z (pos 2)) (toZ-ofZ fits-whole ∙ subtracted)
 
-  read-divided : toZ w16 (ofZ w16 (quotZ (toZ w16 (ofZ w16 (toZ w16 x -ℤ toZ w16 (ofZ w16 d)))) (pos 2))) ≡ pos (natAbs (pos x -ℤ d) / 2)
-  read-divided =
-      ap (λ (z : ℤ). toZ w16 (ofZ w16 z)) divided ∙ read-back (pos (natAbs (pos x -ℤ d) / 2)) (omega (arith, small))
+  fits-half : SFits w64 (quotZ (toZ w64 (ofZ w64 (toZ w64 x -ℤ toZ w64 (ofZ w64 (toZ w16 (ofZ w16 d)))))) (pos 2))
+  fits-half = subst (SFits w64) (sym divided) (fits-long (pos (natAbs (pos x -ℤ d) / 2)) (omega (arith, small)))
+
+  read : toZ w64 (ofZ w64 (quotZ (toZ w64 (ofZ w64 (toZ w64 x -ℤ toZ w64 (ofZ w64 (toZ w16 (ofZ w16 d)))))) (pos 2))) ≡ pos (natAbs (pos x -ℤ d) / 2)
+  read = toZ-ofZ fits-half ∙ divided
 
   halved : pos (natAbs (pos x -ℤ d) / 2) ≡ half (pos x -ℤ d)
   unfolding half
   halved = sym (ap half exact)
 
 cast-result : tie.Need-cast-result
-cast-result c = search needs
+cast-result c = fits-long (pos _) (omega (arith, c .pre .0))
+
+cast-result-2 : tie.Need-cast-result-2
+cast-result-2 c = let p = c .pre in long (c .args .x) _ (p .0) (p .1 .0) (p .1 .1) (c .fits .digit)
 
 sub-result : tie.Need-sub-result
-sub-result c =
-    let x = c .args .x in
-    let p = c .pre in
-    subst (SFits w16) (sym (subtracted x _ (p .0) (p .1 .0) (p .1 .1) (c .fits .digit)))
-    (small-fits (pos _) (omega (arith, small x _ (p .0) (p .1 .0) (p .1 .1) (c .fits .digit))))
+sub-result c = let p = c .pre in fits-whole (c .args .x) _ (p .0) (p .1 .0) (p .1 .1) (c .fits .digit)
 
 div-result : tie.Need-div-result
 div-result c =
-    let x = c .args .x in
-    let p = c .pre in (
-      omega arith,
-      subst (SFits w16) (sym (divided x _ (p .0) (p .1 .0) (p .1 .1) (c .fits .digit)))
-          (small-fits (pos _) (omega (arith, small x _ (p .0) (p .1 .0) (p .1 .1) (c .fits .digit)))),
-    )
+    let p = c .pre in (omega arith, fits-half (c .args .x) _ (p .0) (p .1 .0) (p .1 .1) (c .fits .digit))
 
-cast-result-2 : tie.Need-cast-result-2
-cast-result-2 c =
-    let x = c .args .x in
+cast-result-3 : tie.Need-cast-result-3
+cast-result-3 c =
     let p = c .pre in
-    cast-of _ _ (read-divided x _ (p .0) (p .1 .0) (p .1 .1) (c .fits .digit))
-    (omega (arith, small x _ (p .0) (p .1 .0) (p .1 .1) (c .fits .digit)))
+    cast-of _ _ (read (c .args .x) _ (p .0) (p .1 .0) (p .1 .1) (c .fits .digit)) (omega (arith, small (c .args .x) _ (p .0) (p .1 .0) (p .1 .1) (c .fits .digit)))
 
 returns : tie.Need-returns
 returns c =
-    let x = c .args .x in
     let p = c .pre in
-    ap (λ (z : ℤ). pos (natAbs z)) (read-divided x _ (p .0) (p .1 .0) (p .1 .1) (c .fits .digit))
-    ∙ halved x _ (p .0) (p .1 .0) (p .1 .1) (c .fits .digit)
+    ap (λ (z : ℤ). pos (natAbs z)) (read (c .args .x) _ (p .0) (p .1 .0) (p .1 .1) (c .fits .digit))
+    ∙ halved (c .args .x) _ (p .0) (p .1 .0) (p .1 .1) (c .fits .digit)
 
 pub rest-of-spec : {M : Type 1} → statement M
-rest-of-spec = tie.close (tie.spec cast-result sub-result div-result cast-result-2 returns)
+rest-of-spec = tie.close (tie.spec cast-result cast-result-2 sub-result div-result cast-result-3 returns)

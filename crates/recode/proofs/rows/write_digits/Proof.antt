@@ -1,7 +1,7 @@
 -- `write_digits` meets its contract. The loop's invariant: what stands in the buffer, followed by the row of the remainder,
 -- is the whole row (RowTurns). The measure is the number of places left.
-use mathlib.Core.Path.{_≡_, refl, sym, ap, subst, _∙_}
-use Prim.Native.Nat.{ℕ, _+_, _-_, _≤_, _<_}
+use mathlib.Core.Path.{_≡_, sym, ap, subst, _∙_}
+use Prim.Native.Nat.{ℕ, _+_, _-_, _%_, _≤_, _<_}
 use native.Mathlib.Omega.{arith}
 use borrow.Author.Needs.{needs}
 use lib.IntN.{ℤ, pos, natAbs, _-ℤ_}
@@ -12,29 +12,17 @@ use mir.Facts.{toZ-ofZ}
 use Rattle.digits.specs.Byte.{byteOf}
 use Rattle.digits.specs.Integer.{half, size, mag-size}
 use Rattle.digits.specs.Machine.{read-back}
-use Rattle.digits.specs.Scalar.{little, bitLength}
-use Rattle.recode.specs.Remainder.{remaining, Held}
-use Rattle.recode.specs.Residue.{width}
-use Rattle.recode.specs.Row.{row, digit, rest}
-use Rattle.recode.proofs.RowLoop.{Given, State, begin, refill, finish, skipped, inside, small, halved, stored, reached}
+use Rattle.recode.specs.Remainder.{Held}
+use Rattle.recode.specs.Row.{digit}
+use Rattle.recode.proofs.RowLoop.{Given, State, begin, refill, finish, skipped, still, inside, small, halved, stored, reached}
 use Rattle.recode.proofs.rows.write_digits.Statement.{statement}
 use Rattle.recode.proofs.rows.write_digits.Tie as tie
-use Rattle.recode.proofs.rows.write_digits.Reads as reads
-use Rattle.recode.proofs.rows.write_digits.Lts as lts
-use Rattle.digits.proofs.byte_of.Reads as byte-of-reads
-use Rattle.recode.proofs.digit.digit_of.Reads as digit-of-reads
-use Rattle.recode.proofs.low.Low.filled.Reads as filled-reads
-use Rattle.recode.proofs.low.Low.less.Reads as less-reads
-use Rattle.recode.proofs.low.Low.new.Reads as new-reads
-use Rattle.recode.proofs.low.Low.shifted.Reads as shifted-reads
-use Rattle.recode.proofs.low.Low.zeros.Reads as zeros-reads
-use Rattle.recode.proofs.rows.ended.Reads as ended-reads
 
 abbrev Inv-loop : tie.InvT-loop
-Inv-loop bytes used m w out₀ low₀ place₀ out low place = State bytes m out₀ out low place
+Inv-loop bytes used m half out₀ low₀ place₀ out low place = State bytes m out₀ out low place
 
 abbrev μ-loop : tie.MeasureT-loop
-μ-loop bytes used m w out₀ low₀ place₀ out low place = length out - place
+μ-loop bytes used m half out₀ low₀ place₀ out low place = length out - place
 
 module _ (c : tie.After-new Inv-loop μ-loop) where
   given : Given (c .before .before .before .args .bytes .now) (c .before .before .before .args .used) (c .before .before .before .args .m) (c .before .before .before .args .out .now)
@@ -78,22 +66,71 @@ returns c =
 zeros-requires : tie.Need-zeros-requires Inv-loop μ-loop
 zeros-requires c κs = c .before .before .filled .ensures .1
 
+shifted-requires : tie.Need-shifted-requires Inv-loop μ-loop
+shifted-requires c κs = (c .before .before .before .filled .ensures .1 .0, (c .zeros .ensures .0, c .zeros .ensures .1 .0))
+
+-- the state once the zeros are skipped
+module _ (c : tie.After-shifted Inv-loop μ-loop) where
+  going : c .before .before .before .before .filled .result .low ≡ 0 → c .before .before .before .before .filled .result .at < c .before .before .before .before .before .before .before .before .before .args .used
+  going = c .before .before .before .ended .ensures .1 (c .before .before .if1 .left)
+
+  odd : State (c .before .before .before .before .before .before .before .before .before .args .bytes .now) (c .before .before .before .before .before .before .before .before .before .args .m) (c .before .before .before .before .before .before .before .before .before .args .out .now) (c .before .before .before .before .before .loop .out) (c .shifted .result) (c .before .before .before .before .before .loop .place + c .before .zeros .result)
+  odd =
+      let f = c .before .before .before .before in
+      skipped (given (f .before .before)) (f .filled .result) going (full f) (c .shifted .result) (c .before .zeros .result) (c .before .zeros .ensures .1 .0) (c .shifted .ensures)
+
+  going-on : c .shifted .result .low ≡ 0 → c .shifted .result .at < c .before .before .before .before .before .before .before .before .before .args .used
+  going-on =
+      let f = c .before .before .before .before in
+      still (given (f .before .before)) (f .filled .result) going (full f) (c .shifted .result) (c .before .zeros .result) (c .before .zeros .ensures .1 .0) (c .shifted .ensures .1 .0) (c .shifted .ensures .1 .1 .1)
+
+  within : c .before .before .before .before .before .loop .place + c .before .zeros .result ≤ length (c .before .before .before .before .before .loop .out)
+  within = reached (given (c .before .before .before .before .before .before)) (c .shifted .result) odd
+
+cast-place : tie.Need-cast-place Inv-loop μ-loop
+cast-place c = search needs
+
+add-place : tie.Need-add-place Inv-loop μ-loop
+add-place c =
+    let a = c .before .before .before .before .before in
+    omega (arith, within c, a .loop .inv .1 .0, a .before .before .before .before .good)
+
+loop-less : tie.Need-loop-less Inv-loop μ-loop
+loop-less c =
+    let h = c .before .before in
+    omega (arith, within h, c .if2 .taken, h .shifted .ensures .1 .1 .0, h .before .before .before .before .filled .ensures .1 .1)
+
+loop-again : tie.Need-loop-again Inv-loop μ-loop
+loop-again c = odd (c .before .before)
+
+lowest-requires : tie.Need-lowest-requires Inv-loop μ-loop
+lowest-requires c κs = search needs
+
 digit-of-requires : tie.Need-digit-of-requires Inv-loop μ-loop
 digit-of-requires c κs =
-    let z = c .before in
-    let p = c .before .before .before .before .before .before .before .before .before .pre in
-    (z .zeros .ensures .1 .1 (c .if2 .taken), p .0)
+    let h = c .before .before .before in
+    let p = h .before .before .before .before .before .before .before .before .before .pre in (
+      omega (arith, c .lowest .ensures),
+      (
+        omega (arith, c .lowest .ensures, h .before .zeros .ensures .1 .1 (omega (arith, c .before .if2 .left, h .shifted .ensures .1 .1 .0)), h .shifted .ensures .1 .1 .1),
+        p .0,
+      ),
+    )
 
 -- the digit, which the machine reads back as it is
 module _ (c : tie.After-digit-of Inv-loop μ-loop) where
-  low-digit : c .digit-of .result ≡ digit (c .before .before .before .before .before .before .before .before .before .before .args .m) (pos (c .before .before .before .before .before .filled .result .low))
-  low-digit = c .digit-of .ensures
+  enough : 6 ≤ c .before .before .before .before .shifted .result .bits
+  enough = omega (arith, c .before .before .if2 .left)
+
+  low-digit : c .digit-of .result ≡ digit (c .before .before .before .before .before .before .before .before .before .before .before .before .before .args .m) (pos (c .before .before .before .before .shifted .result .low % 64))
+  low-digit =
+      c .digit-of .ensures
+      ∙ ap (λ (x : ℕ). digit (c .before .before .before .before .before .before .before .before .before .before .before .before .before .args .m) (pos x)) (c .before .lowest .ensures)
 
   tiny : natAbs (c .digit-of .result) ≤ 31
   tiny =
-      let f = c .before .before .before .before .before in
-      small (given (f .before .before)) (f .filled .result) (c .before .before .before .before .ended .ensures .1 (c .before .before .before .if1 .left)) (f .filled .ensures .1 .1) (full f)
-      (c .digit-of .result) low-digit
+      let h = c .before .before .before .before in
+      small (given (h .before .before .before .before .before .before)) (h .shifted .result) (going-on h) (odd h) enough (c .digit-of .result) low-digit
 
   same : toZ w16 (ofZ w16 (c .digit-of .result)) ≡ c .digit-of .result
   same = read-back (c .digit-of .result) (omega (arith, size (c .digit-of .result), tiny))
@@ -109,65 +146,38 @@ byte-of-requires c κs = search needs
 
 slice-write-out : tie.Need-slice-write-out Inv-loop μ-loop
 slice-write-out c =
-    let f = c .before .before .before .before .before .before in
-    inside (given (f .before .before)) (f .filled .result) (c .before .before .before .before .before .ended .ensures .1 (c .before .before .before .before .if1 .left)) (f .filled .ensures .1 .1) (full f)
+    let h = c .before .before .before .before .before in
+    inside (given (h .before .before .before .before .before .before)) (h .shifted .result) (going-on h) (odd h)
 
 less-requires : tie.Need-less-requires Inv-loop μ-loop
 less-requires c κs =
-    let f = c .before .before .before .before .before .before in
-    let h =
-    halved (given (f .before .before)) (f .filled .result) (c .before .before .before .before .before .ended .ensures .1 (c .before .before .before .before .if1 .left)) (f .filled .ensures .1 .1) (full f)
-    (c .before .digit-of .result) (low-digit (c .before))
-    in (
-      f .filled .ensures .1 .0,
+    let d = c .before in
+    let h = d .before .before .before .before in
+    let k = halved (given (h .before .before .before .before .before .before)) (h .shifted .result) (going-on h) (odd h) (enough d) (d .digit-of .result) (low-digit d) in (
+      h .shifted .ensures .0,
       (
-        omega (arith, f .filled .ensures .1 .1),
-        subst (λ (d : ℤ). (natAbs d ≤ 31) × ((k : ℕ) × (half (pos (f .filled .result .low) -ℤ d) ≡ pos k))) (sym (same (c .before))) (tiny (c .before), h),
+        omega (arith, enough d),
+        subst (λ (x : ℤ). (natAbs x ≤ 31) × ((k : ℕ) × (half (pos (h .shifted .result .low) -ℤ x) ≡ pos k))) (sym (same d)) (tiny d, k),
       ),
     )
 
-loop-again : tie.Need-loop-again Inv-loop μ-loop
-loop-again c =
-    let f = c .before .before .before .before .before .before .before in
-    let d = c .before .before in
-    stored (given (f .before .before)) (f .filled .result) (c .before .before .before .before .before .before .ended .ensures .1 (c .before .before .before .before .before .if1 .left)) (f .filled .ensures .1 .1) (full f)
-    (d .digit-of .result) (low-digit d) (c .less .result) (c .before .byte-of .result)
-    (c .before .byte-of .ensures ∙ ap byteOf (ap (λ (x : ℤ). toZ w8 (ofZ w8 x)) (same d) ∙ toZ-ofZ (fits-byte d)))
-    (subst (λ (x : ℤ). Held (c .less .result) × ((c .less .result .at ≡ f .filled .result .at) × ((c .less .result .bits + 1 ≡ f .filled .result .bits) × (pos (c .less .result .low) ≡ half (pos (f .filled .result .low) -ℤ x)))))
-    (same d) (c .less .ensures))
-
-add-place : tie.Need-add-place Inv-loop μ-loop
-add-place c =
-    let a = c .before .before .before .before .before .before .before .before in
-    omega (arith, slice-write-out (c .before), a .loop .inv .1 .0, a .before .before .before .before .good)
-
-loop-less : tie.Need-loop-less Inv-loop μ-loop
-loop-less c = simp length-set (omega (arith, slice-write-out (c .before)))
-
-shifted-requires : tie.Need-shifted-requires Inv-loop μ-loop
-shifted-requires c κs =
-    let e = c .before .zeros .ensures in
-    (c .before .before .before .before .filled .ensures .1 .0, (e .0, e .1 .0))
-
-cast-place : tie.Need-cast-place Inv-loop μ-loop
-cast-place c = search needs
-
 loop-again-2 : tie.Need-loop-again-2 Inv-loop μ-loop
 loop-again-2 c =
-    let f = c .before .before .before .before .before in
-    let z = c .before .before .zeros in
-    skipped (given (f .before .before)) (f .filled .result) (c .before .before .before .before .ended .ensures .1 (c .before .before .before .if1 .left)) (f .filled .ensures .1 .1) (full f)
-    (c .shifted .result) (z .result) (z .ensures .1 .0) (c .shifted .ensures)
+    let d = c .before .before in
+    let h = d .before .before .before .before in
+    stored (given (h .before .before .before .before .before .before)) (h .shifted .result) (going-on h) (odd h) (enough d) (d .digit-of .result) (low-digit d)
+    (c .less .result) (c .before .byte-of .result)
+    (c .before .byte-of .ensures ∙ ap byteOf (ap (λ (x : ℤ). toZ w8 (ofZ w8 x)) (same d) ∙ toZ-ofZ (fits-byte d)))
+    (subst (λ (x : ℤ). Held (c .less .result) × ((c .less .result .at ≡ h .shifted .result .at) × ((c .less .result .bits + 1 ≡ h .shifted .result .bits) × (pos (c .less .result .low) ≡ half (pos (h .shifted .result .low) -ℤ x)))))
+    (same d) (c .less .ensures))
 
 add-place-2 : tie.Need-add-place-2 Inv-loop μ-loop
 add-place-2 c =
-    let a = c .before .before .before .before .before .before in
-    omega (arith, reached (given (a .before)) (c .shifted .result) (loop-again-2 c), a .loop .inv .1 .0, a .before .before .before .before .good)
+    let a = c .before .before .before .before .before .before .before .before .before .before .before in
+    omega (arith, slice-write-out (c .before), a .loop .inv .1 .0, a .before .before .before .before .good)
 
 loop-less-2 : tie.Need-loop-less-2 Inv-loop μ-loop
-loop-less-2 c =
-    let a = c .before .before .before .before .before .before in
-    omega (arith, reached (given (a .before)) (c .shifted .result) (loop-again-2 c), c .before .if2 .left)
+loop-less-2 c = simp length-set (omega (arith, slice-write-out (c .before)))
 
 pub write-digits-spec : {M : Type 1} → statement M
 write-digits-spec =
@@ -182,16 +192,17 @@ write-digits-spec =
     same-length
     returns
     zeros-requires
+    shifted-requires
+    cast-place
+    add-place
+    loop-less
+    loop-again
+    lowest-requires
     digit-of-requires
     cast-byte-of
     byte-of-requires
     slice-write-out
     less-requires
-    add-place
-    loop-less
-    loop-again
-    shifted-requires
-    cast-place
     add-place-2
     loop-less-2
     loop-again-2)

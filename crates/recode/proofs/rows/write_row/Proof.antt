@@ -5,7 +5,7 @@ use Prim.Native.Nat.{ℕ, _+_, _*_, _-_, _/_, _≤_}
 use native.Mathlib.Omega.{arith}
 use borrow.Author.Needs.{needs}
 use lib.IntN.{pos}
-use lib.ListN.{length, replicate}
+use lib.ListN.{length}
 use Rattle.digits.specs.Bytes.{length-bytes}
 use Rattle.digits.specs.Scalar.{little, scalar, bitLength}
 use Rattle.recode.specs.Call.{filled}
@@ -35,8 +35,8 @@ copied-requires c κs = search needs
 clear-requires : tie.Need-clear-requires
 clear-requires c κs = search needs
 
-width-of-requires : tie.Need-width-of-requires
-width-of-requires c κs = search needs
+half-of-requires : tie.Need-half-of-requires
+half-of-requires c κs = search needs
 
 slice-aggregate-write-digits : tie.Need-slice-aggregate-write-digits
 slice-aggregate-write-digits c = search needs
@@ -74,7 +74,7 @@ write-digits-requires c κs =
     let p = k .before .before .before .before .before .before .pre in
     let out = k .before .before .before .before .before .before .args .out .now in
     let bits = k .before .before .before .bits-of .result in (
-      (p .1 .0, (p .1 .1 .0, c .before .before .width-of .ensures)),
+      (p .1 .0, (p .1 .1 .0, c .before .before .half-of .ensures)),
       (
         ap (λ (n : ℕ). (n + 7) / 8) (k .before .before .before .bits-of .ensures ∙ ap bitLength (sym (number k))),
         (
@@ -108,7 +108,7 @@ write-row-spec =
     add-places
     copied-requires
     clear-requires
-    width-of-requires
+    half-of-requires
     slice-aggregate-write-digits
     slice-relend-prefix-write-digits
     slice-aggregate-write-digits-2

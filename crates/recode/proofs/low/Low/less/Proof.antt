@@ -5,11 +5,8 @@ use native.Mathlib.Omega.{arith}
 use borrow.Author.Needs.{needs}
 use lib.IntN.{ℤ, pos, natAbs, _-ℤ_}
 use lib.Pow.{pow-mono}
-use mir.Syntax.{w16}
-use mir.Val.{toZ, ofZ}
 use mir.Facts.{toZ-ofZ}
 use Rattle.digits.specs.Integer.{half}
-use Rattle.recode.specs.Remainder.{Held}
 use Rattle.recode.proofs.LowBits.{less-bound}
 use Rattle.recode.proofs.low.Low.less.Statement.{statement}
 use Rattle.recode.proofs.low.Low.less.Tie as tie
@@ -21,7 +18,7 @@ rest-of-requires : tie.Need-rest-of-requires
 rest-of-requires c κs =
     let p = c .before .pre in
     let same = sym (toZ-ofZ (c .before .fits .digit)) in (
-      omega (arith, p .0 .low, pow-mono {j = 13} (p .0 .few)),
+      omega (arith, p .0 .low, pow-mono {j = 47} (p .0 .few)),
       subst (λ (d : ℤ). (natAbs d ≤ 32) × ((k : ℕ) × (half (pos (c .before .args .self .low) -ℤ d) ≡ pos k))) same (omega arith, p .1 .1 .1),
     )
 

@@ -2,16 +2,12 @@
 use mathlib.Core.Path.{refl}
 use native.Mathlib.Omega.{arith}
 use borrow.Author.Needs.{needs}
-use Rattle.recode.specs.Remainder.{Held}
 use Rattle.recode.proofs.LowBits.{shifted-bound}
 use Rattle.recode.proofs.low.Low.shifted.Statement.{statement}
 use Rattle.recode.proofs.low.Low.shifted.Tie as tie
 
 sub-t3 : tie.Need-sub-t3
 sub-t3 c = search needs
-
-cast-t4 : tie.Need-cast-t4
-cast-t4 c = search needs
 
 shr-t5 : tie.Need-shr-t5
 shr-t5 c = search needs
@@ -28,4 +24,4 @@ returns c =
     )
 
 pub shifted-spec : {M : Type 1} → statement M
-shifted-spec = tie.close (tie.spec sub-t3 cast-t4 shr-t5 returns)
+shifted-spec = tie.close (tie.spec sub-t3 shr-t5 returns)
