@@ -1,70 +1,47 @@
--- Numbers in limbs: the turns of the multiplication and of the comparison of a sum, from the value of a list of limbs.
+-- Numbers in limbs: a scalar by its last figures, and the turns of the comparison. From the value of a list of limbs.
 use mathlib.Core.Path.{_≡_, refl, sym, ap, subst, _∙_}
 use mathlib.Core.Logic.{_≢_}
-use mathlib.Core.Bool.{Bool, true, false}
-use mathlib.Core.List.{List, [], _∷_, _++_, append-assoc, append-nil}
-use Prim.Native.Nat.{ℕ, zero, suc, _+_, _*_, _/_, _%_, _^_, _≤_, _<_}
-use native.Mathlib.Nat.{mul-le-mul, pow-le-pow-right, le-trans, lt-of-lt-of-le, mod-eq-of-lt}
-use native.Mathlib.Numerals.{add-one}
+use mathlib.Core.Bool.{Bool, true, false, and-eq-true-iff}
+use mathlib.Core.List.{List, [], _∷_, _++_}
+use Prim.Native.Nat.{ℕ, zero, suc, _+_, _*_, _/_, _%_, _≤_, _<_}
 use native.Mathlib.Omega.{arith}
-use lib.Arith.{digits-mod}
-use lib.Dec.{eqb}
-use lib.ListN.{length, getD, take, drop, set, replicate, drop-of-length-le}
-use lib.Seq.{drop-cons, take-suc-set, drop-set-lt, take-all}
-use borrow.Author.Tests.{eq-eqb, ne-eqb, eqb-true, eqb-false, leb-true, ltb-true}
+use lib.Dec.{eqb, ltb}
+use lib.ListN.{length, getD, take, drop, replicate, drop-of-length-le}
+use lib.Seq.{drop-cons, take-suc, take-length}
+use borrow.Author.Tests.{eq-eqb, ne-eqb, eqb-true, eqb-false, ltb-true}
 use lib.IntN.{pos}
 use Rattle.digits.specs.Integer.{up, down, negation}
-use Rattle.reader.specs.Accumulator.{room}
+use Rattle.sheet.specs.Numeral.{worth, figures, followed}
 use Rattle.reader.specs.Coded.{whole, wholeOf}
-use Rattle.reader.specs.Limbs.{limb, limbs, scale, value}
+use Rattle.reader.specs.Limbs.{limb, value, before}
 use Rattle.reader.specs.declared.point.Signed.{Signed}
-use Rattle.sheet.proofs.FieldTurns.{power-turn}
 
--- a product of two limbs, and a limb more, fit 64 bits
-pub product-most : (x m : ℕ) → x < limb → m < limb → x * m ≤ 18446744065119617025
-product-most x m p q = mul-le-mul {n₁ = x} {m₁ = m} {n₂ = 4294967295} {m₂ = 4294967295} (omega arith) (omega arith)
+-- ── a scalar ────────────────────────────────────────────────────────────────────────────────
 
--- ── m times a number, and c ─────────────────────────────────────────────────────────────────
+followed-last : (n : ℕ) (s : List ℕ) (c : ℕ) → followed 16 n (s ++ (c ∷ [])) ≡ followed 16 n s * 16 + worth c
+unfolding followed
+followed-last n [] c = refl
+followed-last n (x ∷ s) c = followed-last (n * 16 + worth x) s c
 
--- the limbs of m times the number, and c added; what is carried out of the top one is lost
-unfoldable pub mulAdd : ℕ → ℕ → List ℕ → List ℕ
-mulAdd m c [] = []
-mulAdd m c (x ∷ xs) = (m * x + c) % limb ∷ mulAdd m ((m * x + c) / limb) xs
+-- no figure before the first place
+pub before-none : (s : List ℕ) → before s 0 ≡ 0
+unfolding followed
+before-none s = refl
 
--- a limb and what is carried are the remainder and the quotient
-split-limb : (t l k : ℕ) → l + limb * k ≡ t → l < limb → (t % limb ≡ l) × (t / limb ≡ k)
-split-limb t l k e h = omega arith
+-- one figure
+pub before-last : (s : List ℕ) (i : ℕ) → i < length s → before s (suc i) ≡ 16 * before s i + worth (getD s i 0)
+before-last s i h = ap (followed 16 0) (take-suc s i 0 h) ∙ followed-last 0 (take i s) (getD s i 0) ∙ omega arith
 
-module _ (out : List ℕ) (i : ℕ) (h : i < length out) (m carry l k : ℕ) (e : l + limb * k ≡ m * getD out i 0 + carry) (small : l < limb) where
-  pub mul-turn : take (i + 1) (set out i l) ++ mulAdd m k (drop (i + 1) (set out i l)) ≡ take i out ++ mulAdd m carry (drop i out)
-  unfolding mulAdd
-  mul-turn =
-      let s = split-limb (m * getD out i 0 + carry) l k e small in
-      let n : i < suc i = omega arith in
-      rw (add-one, take-suc-set out i l h, drop-set-lt (suc i) out i l n, drop-cons out i 0 h, append-assoc, s .0, s .1)
+pub before-all : (s : List ℕ) → before s (length s) ≡ followed 16 0 s
+before-all s = ap (followed 16 0) (take-length s)
 
-pub mul-end : (out : List ℕ) (i : ℕ) (m carry : ℕ) → length out ≤ i → take i out ++ mulAdd m carry (drop i out) ≡ out
-unfolding mulAdd
-mul-end out i m carry h = rw (drop-of-length-le out h, append-nil, take-all i out h)
+pub figure-small : (s : List ℕ) (i : ℕ) → figures 16 s ≡ true → i < length s → worth (getD s i 0) < 16
+unfolding figures
+figure-small [] i e h = absurd (omega arith)
+figure-small (c ∷ s) zero e h = ltb-true (worth c) 16 (and-eq-true-iff (ltb (worth c) 16) (figures 16 s) .0 e .0)
+figure-small (c ∷ s) (suc i) e h = figure-small s i (and-eq-true-iff (ltb (worth c) 16) (figures 16 s) .0 e .1) (omega arith)
 
-over : (m c : ℕ) (xs : List ℕ) → (o : ℕ) × (value (mulAdd m c xs) + scale (length xs) * o ≡ m * value xs + c)
-unfolding value mulAdd scale
-over m c [] = (c, omega arith)
-over m c (x ∷ xs) =
-    let (o, e) = over m ((m * x + c) / limb) xs in
-    (o, omega (arith, e))
-
-below : (m c : ℕ) (xs : List ℕ) → value (mulAdd m c xs) < scale (length xs)
-unfolding value mulAdd scale
-below m c [] = omega arith
-below m c (x ∷ xs) = omega (arith, below m ((m * x + c) / limb) xs)
-
-pub mul-value : (m c : ℕ) (xs : List ℕ) → value (mulAdd m c xs) ≡ (m * value xs + c) % scale (length xs)
-mul-value m c xs =
-    let (o, e) = over m c xs in
-    sym (digits-mod o (below m c xs)) ∙ ap (λ (n : ℕ). n % scale (length xs)) (omega (arith, e))
-
--- ── a sum ───────────────────────────────────────────────────────────────────────────────────
+-- ── the comparison ──────────────────────────────────────────────────────────────────────────
 
 -- two tests that hold together are the same
 pub same-test : (a b c d : ℕ) → (a ≡ b → c ≡ d) → (c ≡ d → a ≡ b) → eqb a b ≡ eqb c d
@@ -74,77 +51,51 @@ same-test a b c d f g = go (eqb c d) refl
     go true e = eq-eqb a b (g (eqb-true c d e))
     go false e = ne-eqb a b (λ h. eqb-false c d e (f h))
 
-module _ (x y z : List ℕ) (i : ℕ) (hx : i < length x) (hy : i < length y) (hz : i < length z) (carry l k : ℕ)
-    (e : l + limb * k ≡ getD x i 0 + getD y i 0 + carry) (small : l < limb) (right : getD z i 0 < limb) where
-  pub sum-turn : l ≡ getD z i 0
-      → eqb (value (drop (i + 1) x) + value (drop (i + 1) y) + k) (value (drop (i + 1) z)) ≡ eqb (value (drop i x) + value (drop i y) + carry) (value (drop i z))
+-- the scalar x from here on is limb * rest + l
+module _ (x rest l : ℕ) (e : x ≡ limb * rest + l) (minus plus : List ℕ) (i left right : ℕ) (hm : i < length minus) (hp : i < length plus) where
+  pub sum-turn : (l + getD minus i 0 + left) % limb ≡ (getD plus i 0 + right) % limb
+      → eqb (rest + value (drop (i + 1) minus) + (l + getD minus i 0 + left) / limb) (value (drop (i + 1) plus) + (getD plus i 0 + right) / limb)
+      ≡ eqb (x + value (drop i minus) + left) (value (drop i plus) + right)
   unfolding value
   sum-turn s =
-      rw (add-one, drop-cons x i 0 hx, drop-cons y i 0 hy, drop-cons z i 0 hz)
-      (same-test (value (drop (suc i) x) + value (drop (suc i) y) + k) (value (drop (suc i) z))
-      (getD x i 0 + limb * value (drop (suc i) x) + (getD y i 0 + limb * value (drop (suc i) y)) + carry) (getD z i 0 + limb * value (drop (suc i) z))
+      rw (native.Mathlib.Numerals.add-one, drop-cons minus i 0 hm, drop-cons plus i 0 hp)
+      (same-test (rest + value (drop (suc i) minus) + (l + getD minus i 0 + left) / limb) (value (drop (suc i) plus) + (getD plus i 0 + right) / limb)
+      (x + (getD minus i 0 + limb * value (drop (suc i) minus)) + left) (getD plus i 0 + limb * value (drop (suc i) plus) + right)
       (λ q. omega arith) (λ q. omega arith))
 
-  pub sum-stop : l ≢ getD z i 0 → false ≡ eqb (value (drop i x) + value (drop i y) + carry) (value (drop i z))
+  pub sum-stop : (l + getD minus i 0 + left) % limb ≢ (getD plus i 0 + right) % limb → false ≡ eqb (x + value (drop i minus) + left) (value (drop i plus) + right)
   unfolding value
   sum-stop s =
-      rw (drop-cons x i 0 hx, drop-cons y i 0 hy, drop-cons z i 0 hz)
-      (sym (ne-eqb (getD x i 0 + limb * value (drop (suc i) x) + (getD y i 0 + limb * value (drop (suc i) y)) + carry) (getD z i 0 + limb * value (drop (suc i) z))
+      rw (drop-cons minus i 0 hm, drop-cons plus i 0 hp)
+      (sym (ne-eqb (x + (getD minus i 0 + limb * value (drop (suc i) minus)) + left) (getD plus i 0 + limb * value (drop (suc i) plus) + right)
       (λ q. s (omega arith))))
 
-pub sum-end : (x y z : List ℕ) (i carry : ℕ) → length x ≤ i → length y ≤ i → length z ≤ i
-    → eqb carry 0 ≡ eqb (value (drop i x) + value (drop i y) + carry) (value (drop i z))
+pub sum-end : (x : ℕ) (minus plus : List ℕ) (i left right : ℕ) → x ≡ 0 → length minus ≤ i → length plus ≤ i
+    → eqb left right ≡ eqb (x + value (drop i minus) + left) (value (drop i plus) + right)
 unfolding value
-sum-end x y z i carry hx hy hz =
-    rw (drop-of-length-le x hx, drop-of-length-le y hy, drop-of-length-le z hz)
-    (same-test carry 0 (0 + 0 + carry) 0 (λ q. omega arith) (λ q. omega arith))
+sum-end x minus plus i left right e hm hp =
+    rw (drop-of-length-le minus hm, drop-of-length-le plus hp)
+    (same-test left right (x + 0 + left) (0 + right) (λ q. omega arith) (λ q. omega arith))
 
-pub sum-start : (x y z : ℕ) → eqb (x + y + 0) z ≡ eqb (x + y) z
-sum-start x y z = let e : x + y + 0 ≡ x + y = omega arith in ap (λ (n : ℕ). eqb n z) e
+pub sum-start : (x y z : ℕ) → eqb (x + y + 0) (z + 0) ≡ eqb (x + y) z
+sum-start x y z = same-test (x + y + 0) (z + 0) (x + y) z (λ q. omega arith) (λ q. omega arith)
 
--- ── a scalar ────────────────────────────────────────────────────────────────────────────────
+-- ── zeros ───────────────────────────────────────────────────────────────────────────────────
 
--- 132 hexadecimal figures fit the limbs
-figures-fit : 16 ^ 132 ≤ scale limbs
-unfolding scale
-figures-fit = leb-true (16 ^ 132) (scale limbs) refl
-
-pub figures-room : (i v : ℕ) → i ≤ 132 → v < 16 ^ i → v < scale limbs
-figures-room i v h l = lt-of-lt-of-le l (le-trans (pow-le-pow-right {n = 16} (omega arith) h) figures-fit)
-
-pub zero-value : (n : ℕ) → value (replicate n 0) ≡ 0
+pub zero-value : (n j : ℕ) → value (drop j (replicate n 0)) ≡ 0
 unfolding value
-zero-value zero = refl
-zero-value (suc n) = omega (arith, zero-value n)
+zero-value zero j = ap value (drop-of-length-le [] {i = j} (omega arith))
+zero-value (suc n) zero = omega (arith, zero-value n 0)
+zero-value (suc n) (suc j) = zero-value n j
 
--- one figure more
-pub figure-turn : (v w i r : ℕ) → i + 1 ≤ 132 → v < 16 ^ i → w < 16 → r ≡ (16 * v + w) % scale limbs → r ≡ v * 16 + w
-figure-turn v w i r h l q e =
-    let same : 16 * v + w ≡ v * 16 + w = omega arith in
-    let fits : 16 * v + w < scale limbs = subst (λ (n : ℕ). n < scale limbs) (sym same) (figures-room (i + 1) (v * 16 + w) h (power-turn 16 v w i l q)) in
-    e ∙ mod-eq-of-lt fits ∙ same
+pub zero-limb : (n i : ℕ) → _≡_ {A = ℕ} (getD (replicate n 0) i 0) 0
+zero-limb zero i = refl
+zero-limb (suc n) zero = refl
+zero-limb (suc n) (suc i) = zero-limb n i
 
--- ── the accumulator's numbers ───────────────────────────────────────────────────────────────
+-- ── a digit ─────────────────────────────────────────────────────────────────────────────────
 
-double-fits : 2 * room < scale limbs
-unfolding room scale
-double-fits = ltb-true (2 * room) (scale limbs) refl
-
-digit-fits : room + limb < scale limbs
-unfolding room scale
-digit-fits = ltb-true (room + limb) (scale limbs) refl
-
-pub double-part : (v r : ℕ) → v ≤ room → r ≡ (2 * v + 0) % scale limbs → r ≡ 2 * v
-double-part v r h e =
-    let fits : 2 * v + 0 < scale limbs = omega (arith, double-fits) in
-    e ∙ mod-eq-of-lt fits ∙ omega arith
-
-pub digit-part : (v d r : ℕ) → v ≤ room → d < limb → r ≡ (1 * v + d) % scale limbs → r ≡ v + d
-digit-part v d r h l e =
-    let fits : 1 * v + d < scale limbs = omega (arith, digit-fits) in
-    e ∙ mod-eq-of-lt fits ∙ omega arith
-
--- a digit by its sign and its size
+-- by its sign and its size
 pub sign-minus : (s : Signed) → s .negative ≡ true → (up (whole s) ≡ 0) × (down (whole s) ≡ s .size)
 sign-minus s e =
     subst (λ (b : Bool). (up (wholeOf b (s .size)) ≡ 0) × (down (wholeOf b (s .size)) ≡ s .size)) (sym e)

@@ -5,30 +5,32 @@ use mathlib.Core.Bool.{Bool, true, false, cond}
 use mathlib.Core.List.{List, [], _∷_, _++_}
 use mathlib.Core.Option.{Option, none, some}
 use Prim.Native.Nat.{ℕ, zero, suc, _+_, _≤_, _<_}
+use native.Mathlib.Numerals.{add-one}
 use native.Mathlib.Omega.{arith}
 use lib.Dec.{eqb}
 use lib.IntN.{ℤ}
 use lib.ListN.{length, getD, take, drop, length-drop}
-use lib.Seq.{drop-cons, split-at, drop-drop}
-use borrow.Author.Tests.{eq-eqb, ne-eqb}
+use lib.Seq.{drop-cons, take-suc, split-at, drop-drop}
+use borrow.Author.Tests.{eq-eqb, ne-eqb, eqb-true, eqb-false}
 use Rattle.digits.specs.Limits.{card}
 use Rattle.sheet.specs.Plan.{Point, point}
 use Rattle.sheet.specs.Numeral.{number}
 use Rattle.sheet.specs.Line as spec
 use Rattle.sheet.specs.Line.{joint, interleaved, header, table, load, double, add, end, misspelled}
 use Rattle.sheet.specs.Spelling.{lineFeed, comma, cut, letter, readKind, readDecimal, plain, negative, readDigit, readPoint, readHeader, made, sized, readBehind, readLine, lines}
-use Rattle.sheet.specs.Cut.{Lacks, lines-none, lines-more, lines-last}
+use Rattle.sheet.specs.Cut.{Lacks, cut-some, lines-none, lines-more, lines-last}
 use Rattle.sheet.specs.Field.{First, isNumeral, decimalOf}
-use Rattle.reader.specs.Coded.{optionOf, signed, codedDigit, codedPoint, codedPair, kindOf, isJoint, codedHeader, codedHeading, coded, pointed, Took}
+use Rattle.reader.specs.Coded.{optionOf, signed, codedDigit, codedPoint, codedPair, kindOf, isJoint, codedHeader, codedHeading, coded, pointed, stepped, Doubles, Took}
 use Rattle.reader.specs.declared.point.Signed.{Signed}
 use Rattle.reader.specs.declared.point.Digit as digit
 use Rattle.reader.specs.declared.point.Pair as pair
 use Rattle.reader.specs.declared.line.Heading as heading
 use Rattle.reader.specs.declared.line.Header as header-of
 use Rattle.reader.specs.declared.line.Line.{Line}
-use Rattle.reader.specs.declared.line.Line.the-variants.{Head, Table, Load, Add, Misspelled}
+use Rattle.reader.specs.declared.line.Line.the-variants.{Head, Table, Load, Double, Add, Misspelled}
 use Rattle.sheet.proofs.FieldTurns.{numeral-value}
-use Rattle.sheet.proofs.CutTurns.{first-all}
+use Rattle.sheet.specs.Every.{empty}
+use Rattle.sheet.proofs.CutTurns.{first-all, first-last, first-part, first-zero, lacks-turn}
 
 -- a decimal that was read
 pub option-decimal : (o : Option ℕ) → optionOf (decimalOf o) ≡ o
@@ -174,7 +176,7 @@ module _ (c : ℕ) (fs : List (List ℕ)) where
   step-cases (some p) = refl
 
   module _ (s : c ≢ 83) (d : c ≢ 68) (e : c ≢ 69) where
-    pub behind-step : length fs ≡ 3 → readBehind card c fs ≡ pointed c (readPoint fs)
+    behind-step : length fs ≡ 3 → readBehind card c fs ≡ pointed c (readPoint fs)
     unfolding readBehind
     behind-step n =
         rw (ne-eqb c 83 s, ne-eqb c 68 d, ne-eqb c 69 e, eq-eqb (length fs) 3 n)
@@ -192,9 +194,93 @@ sized-right n fs l e = rw (eq-eqb (length fs) n e)
 pub sized-wrong : (n : ℕ) (fs : List (List ℕ)) (l : spec.Line) → length fs ≢ n → misspelled ≡ sized n fs l
 sized-wrong n fs l e = rw (ne-eqb (length fs) n e)
 
+-- a letter that no step has
+pointed-lost : (c : ℕ) → c ≢ 84 → c ≢ 76 → c ≢ 65 → (o : Option Point) → pointed c o ≡ misspelled
+pointed-lost c x y z none = refl
+pointed-lost c x y z (some t) = rw (ne-eqb c 84 x, ne-eqb c 76 y, ne-eqb c 65 z)
+
+stepped-lost : (c : ℕ) (fs : List (List ℕ)) → c ≢ 84 → c ≢ 76 → c ≢ 65 → misspelled ≡ stepped c fs
+stepped-lost c fs x y z = go (eqb (length fs) 2)
+  where
+    go : (b : Bool) → misspelled ≡ cond b (pointed c (readPoint ([] ∷ fs))) misspelled
+    go true = sym (pointed-lost c x y z (readPoint ([] ∷ fs)))
+    go false = refl
+
+-- the line of a letter and the fields of s behind it
+pub behind-more : (c : ℕ) (f s : List ℕ) → c ≢ 83 → stepped c (cut comma s) ≡ readBehind card c (f ∷ cut comma s)
+unfolding readPoint
+behind-more c f s n = go-D (eqb c 68) refl
+  where
+    some-field : (length (f ∷ cut comma s) ≡ 1) → ⊥
+    some-field e = let (g, gs, i) = cut-some comma s in absurd (omega (arith, e, ap length i))
+
+    go-3 : c ≢ 68 → c ≢ 69 → (b : Bool) → eqb (length (cut comma s)) 2 ≡ b → stepped c (cut comma s) ≡ readBehind card c (f ∷ cut comma s)
+    go-3 d e true i =
+        let two : length (cut comma s) ≡ 2 = eqb-true (length (cut comma s)) 2 i in
+        rw i (sym (behind-step c (f ∷ cut comma s) n d e (omega (arith, two))))
+    go-3 d e false i =
+        let other : length (cut comma s) ≢ 2 = eqb-false (length (cut comma s)) 2 i in
+        rw i (behind-lost c (f ∷ cut comma s) n d e (λ k. other (omega (arith, k))))
+
+    go-E : c ≢ 68 → (b : Bool) → eqb c 69 ≡ b → stepped c (cut comma s) ≡ readBehind card c (f ∷ cut comma s)
+    go-E d true i =
+        let e : c ≡ 69 = eqb-true c 69 i in
+        sym (stepped-lost c (cut comma s) (λ k. absurd (omega arith)) (λ k. absurd (omega arith)) (λ k. absurd (omega arith)))
+        ∙ sized-wrong 1 (f ∷ cut comma s) end some-field
+        ∙ sym (behind-E c (f ∷ cut comma s) e)
+    go-E d false i = go-3 d (eqb-false c 69 i) (eqb (length (cut comma s)) 2) refl
+
+    go-D : (b : Bool) → eqb c 68 ≡ b → stepped c (cut comma s) ≡ readBehind card c (f ∷ cut comma s)
+    go-D true i =
+        let d : c ≡ 68 = eqb-true c 68 i in
+        sym (stepped-lost c (cut comma s) (λ k. absurd (omega arith)) (λ k. absurd (omega arith)) (λ k. absurd (omega arith)))
+        ∙ sized-wrong 1 (f ∷ cut comma s) double some-field
+        ∙ sym (behind-D c (f ∷ cut comma s) d)
+    go-D false i = go-E (eqb-false c 68 i) (eqb c 69) refl
+
+-- the line of a letter alone
+module _ (c : ℕ) (f : List ℕ) where
+  pub alone-D : c ≡ 68 → double ≡ readBehind card c (f ∷ [])
+  alone-D e = sym (behind-D c (f ∷ []) e)
+
+  pub alone-E : c ≡ 69 → end ≡ readBehind card c (f ∷ [])
+  alone-E e = sym (behind-E c (f ∷ []) e)
+
+  pub alone-lost : c ≢ 83 → c ≢ 68 → c ≢ 69 → misspelled ≡ readBehind card c (f ∷ [])
+  alone-lost s d e = behind-lost c (f ∷ []) s d e (λ k. absurd (omega arith))
+
 pub line-behind : (s : List ℕ) (c : ℕ) → c ≡ letter (getD (cut comma s) 0 []) → readBehind card c (cut comma s) ≡ readLine card s
 unfolding readLine
 line-behind s c e = rw (← e)
+
+-- the line of s, whose first field ends at n
+module _ (s : List ℕ) (n c : ℕ) (f : First comma s n) (e : c ≡ letter (take n s)) where
+  pub line-first : readBehind card c (cut comma s) ≡ readLine card s
+  line-first = line-behind s c (e ∙ ap letter (first-zero f))
+
+  pub line-alone : length s ≤ n → readBehind card c (s ∷ []) ≡ readLine card s
+  line-alone h = ap (readBehind card c) (sym (first-last f h)) ∙ line-first
+
+  pub line-more : n < length s → c ≢ 83 → stepped c (cut comma (drop (n + 1) s)) ≡ readLine card s
+  line-more h k = rw add-one (behind-more c (take n s) (drop (suc n) s) k) ∙ ap (readBehind card c) (sym (first-part f h)) ∙ line-first
+
+-- the two fields of s, of which the first ends at n
+module _ (s : List ℕ) (n c : ℕ) (f : First comma s n) where
+  pub stepped-one : length s ≤ n → misspelled ≡ stepped c (cut comma s)
+  stepped-one h = rw (first-last f h)
+
+  module _ (h : n < length s) (m : ℕ) (g : First comma (drop (n + 1) s) m) where
+    first-two : cut comma s ≡ take n s ∷ cut comma (drop (n + 1) s)
+    first-two = rw add-one (first-part f h)
+
+    pub stepped-more : m < length (drop (n + 1) s) → misspelled ≡ stepped c (cut comma s)
+    stepped-more k =
+        let (t, ts, i) = cut-some comma (drop (suc m) (drop (n + 1) s)) in
+        let parts : cut comma s ≡ take n s ∷ take m (drop (n + 1) s) ∷ t ∷ ts = first-two ∙ ap (λ (l : List (List ℕ)). take n s ∷ l) (first-part g k ∙ ap (λ (l : List (List ℕ)). take m (drop (n + 1) s) ∷ l) i) in
+        ap (λ (b : Bool). cond b (pointed c (readPoint ([] ∷ cut comma s))) misspelled) (sym (ne-eqb (length (cut comma s)) 2 (λ z. absurd (omega (arith, z, ap length parts)))))
+
+    pub stepped-two : length (drop (n + 1) s) ≤ m → pointed c (readPoint ([] ∷ take n s ∷ drop (n + 1) s ∷ [])) ≡ stepped c (cut comma s)
+    stepped-two k = ap (stepped c) (sym (first-two ∙ ap (λ (l : List (List ℕ)). take n s ∷ l) (first-last g k)))
 
 -- the line at a place
 module _ (s : List ℕ) (at n : ℕ) (f : First lineFeed (drop at s) n) (h : at < length s) where
@@ -233,6 +319,21 @@ module _ (s : List ℕ) (at n : ℕ) (f : First lineFeed (drop at s) n) (h : at 
           ∙ lines-last card (subst (Lacks lineFeed) here (first-all f w))
           ∙ ap (λ (t : List spec.Line). misspelled ∷ t) (sym (lines-none card))
           ∙ ap (λ (t : List ℕ). misspelled ∷ lines card t) (sym (lib.Seq.drop-length s))
+
+-- a D line at a place
+double-alone : readLine card (68 ∷ []) ≡ double
+unfolding readLine readBehind cut
+double-alone = refl
+
+pub took-double : (s : List ℕ) (at : ℕ) → at < length s → Doubles (drop at s) → Took s at Double (at + 2)
+took-double s at h d =
+    let some : 0 < length (drop at s) = omega (arith, d .long) in
+    let one : take 1 (drop at s) ≡ 68 ∷ [] = take-suc (drop at s) 0 0 some ∙ ap (λ (c : ℕ). c ∷ []) (d .letter) in
+    let other : getD (drop at s) 0 0 ≢ lineFeed = λ e. absurd (omega (arith, e, d .letter)) in
+    let f : First lineFeed (drop at s) 1 = record { most = omega arith; lacks = lacks-turn lineFeed (drop at s) 0 some other empty; found = λ k. d .end } in
+    let next : at + 1 + 1 ≡ at + 2 = omega arith in
+    subst (Took s at Double) next
+    (took-line s at 1 f h (omega (arith, d .long)) Double (ap coded (sym double-alone ∙ ap (readLine card) (sym one))))
 
 -- the kind of a header, by its letter
 pub kind-joint : (f : List ℕ) → letter f ≡ 74 → readKind f ≡ some joint

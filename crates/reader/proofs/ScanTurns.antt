@@ -8,7 +8,7 @@ use Rattle.digits.specs.Limits.{card}
 use Rattle.sheet.specs.Line.{Header, Line, plan, header, table, load, double, add, end, misspelled}
 use Rattle.sheet.specs.Questions.{disallowedFrom, excessFrom, additions, doublings, misplaced, offPlan, disallowed, excess, afterHeader, afterLoad}
 use Rattle.reader.specs.Coded.{codedHeader, codedHeading}
-use Rattle.reader.specs.State.{found, earlier, misplacedFrom, offPlanFrom, disallowedIn, excessIn, Counted, Follows, Behind, placedIn, differsIn}
+use Rattle.reader.specs.State.{found, earlier, misplacedFrom, offPlanFrom, disallowedIn, excessIn, leftAfter, Counted, Follows, Behind, placedIn, differsIn}
 use Rattle.reader.specs.Scan.{Reached, Scanned, Answered, headingOf}
 use Rattle.reader.specs.declared.state.State.{State}
 use Rattle.reader.specs.declared.state.Phase.{Phase}
@@ -24,11 +24,12 @@ pub record Going (s : State) (ls : List Line) (r : State) (rest : List Line) : T
   pub offPlan : offPlanFrom r rest ≡ offPlanFrom s ls
   pub disallowed : disallowedIn r rest ≡ disallowedIn s ls
   pub excess : excessIn r rest ≡ excessIn s ls
+  pub left : leftAfter (r .doubles .left) rest ≡ leftAfter (s .doubles .left) ls
   pub additions : r .additions + additions rest ≡ s .additions + additions ls
   pub doublings : r .doublings + doublings rest ≡ s .doublings + doublings ls
 
 pub going-start : (s : State) (ls : List Line) → Going s ls s ls
-going-start s ls = record { misplaced = refl; offPlan = refl; disallowed = refl; excess = refl; additions = refl; doublings = refl }
+going-start s ls = record { misplaced = refl; offPlan = refl; disallowed = refl; excess = refl; left = refl; additions = refl; doublings = refl }
 
 module _ {s : State} {ls : List Line} {r : State} {rest : List Line} where
   pub going-same : {to : List Line} → rest ≡ to → Going s ls r rest → Going s ls r to
@@ -42,6 +43,7 @@ module _ {s : State} {ls : List Line} {r : State} {rest : List Line} where
         offPlan = f .offPlan rest ∙ g .offPlan;
         disallowed = f .disallowed rest ∙ g .disallowed;
         excess = f .excess rest ∙ g .excess;
+        left = f .left rest ∙ g .left;
         additions = f .additions rest ∙ g .additions;
         doublings = f .doublings rest ∙ g .doublings;
       }
@@ -53,6 +55,7 @@ going-end s ls r (scan.the-variants.Met t) g f =
       offPlan = sym (g .offPlan) ∙ f .offPlan;
       disallowed = sym (g .disallowed) ∙ f .disallowed;
       excess = sym (g .excess) ∙ f .excess;
+      left = sym (g .left) ∙ f .left;
       additions = sym (g .additions) ∙ f .additions;
       doublings = sym (g .doublings) ∙ f .doublings;
     }
@@ -92,7 +95,7 @@ unfolding excessFrom
 no-excess k n = refl
 
 pub reached-end : (s : State) → s .phase ≡ Ended → Reached s [] s
-unfolding additions doublings
+unfolding additions doublings leftAfter
 reached-end s e =
     record {
       misplaced = ap (λ (p : Phase). placedIn p (s .line) []) e;
@@ -101,6 +104,7 @@ reached-end s e =
           ∙ earlier-none (found (s .tables .fault));
       disallowed = ap (earlier (found (s .steps .fault))) (no-disallowed (s .plan) (s .steps .turn) (s .line)) ∙ earlier-none (found (s .steps .fault));
       excess = ap (earlier (found (s .doubles .fault))) (no-excess (s .doubles .left) (s .line)) ∙ earlier-none (found (s .doubles .fault));
+      left = refl;
       additions = omega arith;
       doublings = omega arith;
     }
@@ -151,6 +155,7 @@ module _ {h : Header} {ls : List Line} {u : header-of.Header} {s : State} (e : u
         offPlan = ap (offPlan h) i ∙ sym (b .offPlan ls) ∙ f .offPlan;
         disallowed = ap (disallowed (plan h)) i ∙ sym (b .disallowed ls) ∙ f .disallowed;
         excess = ap (excess card) i ∙ sym (b .excess ls) ∙ f .excess;
+        left = ap (leftAfter (card .doublings)) i ∙ sym (b .left ls) ∙ f .left;
         additions = ap additions i ∙ sym (b .additions ls) ∙ f .additions;
         doublings = ap doublings i ∙ sym (b .doublings ls) ∙ f .doublings;
       }

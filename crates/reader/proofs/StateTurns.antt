@@ -3,7 +3,7 @@ use mathlib.Core.Path.{_≡_, refl, ap, _∙_}
 use mathlib.Core.Bool.{Bool, true, false, cond}
 use mathlib.Core.List.{List, [], _∷_}
 use mathlib.Core.Option.{none, some}
-use Prim.Native.Nat.{ℕ, _+_}
+use Prim.Native.Nat.{ℕ, _+_, _-_}
 use native.Mathlib.Numerals.{add-one}
 use native.Mathlib.Omega.{arith}
 use Rattle.digits.specs.Limits.{card}
@@ -12,7 +12,7 @@ use Rattle.sheet.specs.Plan.{Point, tables, slots}
 use Rattle.sheet.specs.Line.{Line, Header, header, table, load, double, add, end, misspelled}
 use Rattle.sheet.specs.Questions.{unless, isDouble, tableLines, differs, disallowedFrom, disallowed, excessFrom, excess, additions, doublings, afterHeader, afterLoad, afterEnd, misplaced, offPlan, windowed}
 use Rattle.reader.specs.Coded.{kindOf, codedHeader}
-use Rattle.reader.specs.State.{earlier, placedIn, differsIn, planFor, isOnPlan}
+use Rattle.reader.specs.State.{earlier, placedIn, differsIn, leftAfter, planFor, isOnPlan}
 use Rattle.reader.specs.declared.state.Phase.{Phase}
 use Rattle.reader.specs.declared.state.Phase.the-variants.{Tables, Steps, Ended}
 
@@ -102,6 +102,26 @@ module _ (n : ℕ) (ls : List Line) (x : Point) where
     pub excess-end : excessFrom left (n + 1) ls ≡ excessFrom left n (end ∷ ls)
     unfolding excessFrom
     excess-end = rw add-one
+
+    pub left-table : leftAfter left ls ≡ leftAfter left (table x ∷ ls)
+    unfolding leftAfter
+    left-table = refl
+
+    pub left-load : leftAfter left ls ≡ leftAfter left (load x ∷ ls)
+    unfolding leftAfter
+    left-load = refl
+
+    pub left-double : leftAfter (left - 1) ls ≡ leftAfter left (double ∷ ls)
+    unfolding leftAfter
+    left-double = refl
+
+    pub left-add : leftAfter left ls ≡ leftAfter left (add x ∷ ls)
+    unfolding leftAfter
+    left-add = refl
+
+    pub left-end : leftAfter left ls ≡ leftAfter left (end ∷ ls)
+    unfolding leftAfter
+    left-end = refl
 
   -- the counts, with a so far
   module _ (a : ℕ) where
@@ -224,6 +244,10 @@ module _ (h : Header) (ls : List Line) where
   pub begin-excess : excessFrom 528 2 ls ≡ excess card (header h ∷ ls)
   unfolding excess excessFrom
   begin-excess = refl
+
+  pub begin-left : leftAfter 528 ls ≡ leftAfter (card .doublings) (header h ∷ ls)
+  unfolding leftAfter
+  begin-left = refl
 
   pub begin-additions : 0 + additions ls ≡ additions (header h ∷ ls)
   unfolding additions

@@ -1,18 +1,18 @@
 -- The lines of a sheet as the code has them: numbers by sign and size, and the header without its two scalars.
 use mathlib.Core.Path.{_≡_}
 use mathlib.Core.Bool.{Bool, true, false, cond}
-use mathlib.Core.List.{List, _∷_}
+use mathlib.Core.List.{List, [], _∷_}
 use mathlib.Core.Option.{Option, none, some}
 use Prim.Native.Nat.{ℕ, suc, _≤_, _<_}
 use Prim.Native.Char.{code}
 use lib.Dec.{eqb}
 use lib.IntN.{ℤ, pos, negsuc, negℤ}
-use lib.ListN.{length, drop}
+use lib.ListN.{length, getD, drop}
 use Rattle.digits.specs.Limits.{card}
 use Rattle.sheet.specs.Plan.{Point, point}
 use Rattle.sheet.specs.Line as spec
 use Rattle.sheet.specs.Line.{Kind, joint, interleaved, header, table, load, double, add, end, misspelled}
-use Rattle.sheet.specs.Spelling.{lines}
+use Rattle.sheet.specs.Spelling.{readPoint, lines}
 use Rattle.sheet.specs.declared.figures.Decimal.{Decimal}
 use Rattle.sheet.specs.declared.figures.Decimal as decimal
 use Rattle.reader.specs.declared.point.Signed.{Signed}
@@ -100,6 +100,16 @@ coded misspelled = Misspelled
 abbrev pub pointed : ℕ → Option Point → spec.Line
 pointed c none = misspelled
 pointed c (some t) = cond (eqb c (code "T")) (table t) (cond (eqb c (code "L")) (load t) (cond (eqb c (code "A")) (add t) misspelled))
+
+-- the line of a letter and the fields behind it, which are to be two
+abbrev pub stepped : ℕ → List (List ℕ) → spec.Line
+stepped c fs = cond (eqb (length fs) 2) (pointed c (readPoint ([] ∷ fs))) misspelled
+
+-- a D line and its line feed come first
+pub record Doubles (s : List ℕ) : Type 0 where
+  pub long : 2 ≤ length s
+  pub letter : getD s 0 0 ≡ code "D"
+  pub end : getD s 1 0 ≡ code "\n"
 
 -- of the sheet s, the line at a place is l, and the next one begins at `next`
 pub record Took (s : List ℕ) (at : ℕ) (line : Line) (next : ℕ) : Type 0 where

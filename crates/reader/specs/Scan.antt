@@ -11,7 +11,7 @@ use Rattle.sheet.specs.Spelling.{lineFeed, comma, cut}
 use Rattle.sheet.specs.Questions.{misplaced, offPlan, disallowed, excess, additions, doublings}
 use Rattle.reader.specs.Coded.{codedHeader}
 use Rattle.sheet.specs.Field.{isNumeral}
-use Rattle.reader.specs.State.{found, misplacedFrom, offPlanFrom, disallowedIn, excessIn}
+use Rattle.reader.specs.State.{found, misplacedFrom, offPlanFrom, disallowedIn, excessIn, leftAfter}
 use Rattle.reader.specs.declared.line.Header as header-of
 use Rattle.reader.specs.declared.state.State.{State}
 use Rattle.reader.specs.declared.scan.Scan as scan
@@ -23,6 +23,7 @@ pub record Reached (s : State) (ls : List Line) (r : State) : Type 0 where
   pub offPlan : offPlanFrom s ls ≡ found (r .tables .fault)
   pub disallowed : disallowedIn s ls ≡ found (r .steps .fault)
   pub excess : excessIn s ls ≡ found (r .doubles .fault)
+  pub left : leftAfter (s .doubles .left) ls ≡ r .doubles .left
   pub additions : s .additions + additions ls ≡ r .additions
   pub doublings : s .doublings + doublings ls ≡ r .doublings
 
@@ -40,6 +41,7 @@ pub record Answered (ls : List Line) (head : header-of.Header) (r : State) : Typ
   pub offPlan : offPlan h ls ≡ found (r .tables .fault)
   pub disallowed : disallowed (plan h) ls ≡ found (r .steps .fault)
   pub excess : excess card ls ≡ found (r .doubles .fault)
+  pub left : leftAfter (card .doublings) ls ≡ r .doubles .left
   pub additions : additions ls ≡ r .additions
   pub doublings : doublings ls ≡ r .doublings
 

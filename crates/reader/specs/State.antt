@@ -3,14 +3,14 @@ use mathlib.Core.Path.{_≡_}
 use mathlib.Core.Bool.{Bool, false, not, _&&_, cond}
 use mathlib.Core.List.{List, [], _∷_}
 use mathlib.Core.Option.{Option, none, some}
-use Prim.Native.Nat.{ℕ, zero, suc, _+_, _*_, _%_, _≤_}
+use Prim.Native.Nat.{ℕ, zero, suc, _+_, _-_, _*_, _%_, _≤_}
 use lib.Dec.{eqb, leb}
 use lib.ListN.{drop}
 use Rattle.digits.specs.Limits.{card}
 use Rattle.sheet.specs.declared.Plan.{Plan}
 use Rattle.sheet.specs.Plan.{Point, slots, tables}
 use Rattle.sheet.specs.Line as spec
-use Rattle.sheet.specs.Line.{planOf, header, load, double, add}
+use Rattle.sheet.specs.Line.{planOf, header, table, load, double, add, end, misspelled}
 use Rattle.sheet.specs.Questions.{windowed, samePoint, tableLines, differs, turn, disallowedFrom, excessFrom, additions, doublings, afterHeader, afterLoad, afterEnd, misplaced, offPlan, disallowed, excess}
 use Rattle.reader.specs.Coded.{kindOf, codedPoint, codedHeader, coded}
 use Rattle.reader.specs.declared.fault.Fault.{Fault}
@@ -82,8 +82,20 @@ pub record StepTaken (plan : Plan) (s : steps-of.Steps) (t : point-of.Point) (li
 
 -- ── 9 ───────────────────────────────────────────────────────────────────────────────────────
 
+-- the D lines that may still come behind the lines
+unfoldable pub leftAfter : ℕ → List spec.Line → ℕ
+leftAfter left (double ∷ ls) = leftAfter (left - 1) ls
+leftAfter left (header h ∷ ls) = leftAfter left ls
+leftAfter left (table t ∷ ls) = leftAfter left ls
+leftAfter left (load t ∷ ls) = leftAfter left ls
+leftAfter left (add t ∷ ls) = leftAfter left ls
+leftAfter left (end ∷ ls) = leftAfter left ls
+leftAfter left (misspelled ∷ ls) = leftAfter left ls
+leftAfter left [] = left
+
 -- one D line more
 pub record DoubleTaken (s : doubles-of.Doubles) (line : ℕ) (r : doubles-of.Doubles) : Type 0 where
+  pub left : r .left ≡ s .left - 1
   pub rest : (ls : List spec.Line)
       → earlier (found (r .fault)) (excessFrom (r .left) (line + 1) ls) ≡ earlier (found (s .fault)) (excessFrom (s .left) line (double ∷ ls))
 
@@ -140,6 +152,7 @@ pub record Follows (s : State) (l : spec.Line) (r : State) : Type 0 where
   pub offPlan : (ls : List spec.Line) → offPlanFrom r ls ≡ offPlanFrom s (l ∷ ls)
   pub disallowed : (ls : List spec.Line) → disallowedIn r ls ≡ disallowedIn s (l ∷ ls)
   pub excess : (ls : List spec.Line) → excessIn r ls ≡ excessIn s (l ∷ ls)
+  pub left : (ls : List spec.Line) → leftAfter (r .doubles .left) ls ≡ leftAfter (s .doubles .left) (l ∷ ls)
   pub additions : (ls : List spec.Line) → r .additions + additions ls ≡ s .additions + additions (l ∷ ls)
   pub doublings : (ls : List spec.Line) → r .doublings + doublings ls ≡ s .doublings + doublings (l ∷ ls)
 
@@ -151,6 +164,7 @@ pub record Behind (h : spec.Header) (r : State) : Type 0 where
   pub offPlan : (ls : List spec.Line) → offPlanFrom r ls ≡ offPlan h (header h ∷ ls)
   pub disallowed : (ls : List spec.Line) → disallowedIn r ls ≡ disallowed (spec.plan h) (header h ∷ ls)
   pub excess : (ls : List spec.Line) → excessIn r ls ≡ excess card (header h ∷ ls)
+  pub left : (ls : List spec.Line) → leftAfter (r .doubles .left) ls ≡ leftAfter (card .doublings) (header h ∷ ls)
   pub additions : (ls : List spec.Line) → r .additions + additions ls ≡ additions (header h ∷ ls)
   pub doublings : (ls : List spec.Line) → r .doublings + doublings ls ≡ doublings (header h ∷ ls)
 

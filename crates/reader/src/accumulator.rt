@@ -1,18 +1,13 @@
-ghost use mathlib.Core.Path.{_≡_};
-ghost use Prim.Native.Nat.{_+_, _*_};
-ghost use lib.Dec.{eqb};
-ghost use Rattle.sheet.specs.Line as meant;
-ghost use Rattle.reader.specs.Coded.{whole, pointOf, coded};
-ghost use Rattle.reader.specs.Limbs.{value};
-ghost use Rattle.reader.specs.Accumulator.{Parts, Plus, Roomy, Loaded, Doubled, Added, Moved};
-use crate::line::Line;
+ghost use Prim.Native.Nat.{_*_};
+ghost use Rattle.reader.specs.Coded.{whole, pointOf};
+ghost use Rattle.reader.specs.Accumulator.{Parts, Plus, Roomy, Loaded, Doubled, Added};
 use crate::point::Point;
 use crate::point::Signed;
 
 // A whole number: what was added to it, and what was taken off it.
 pub struct Number {
-    pub plus: [u32; 18],
-    pub minus: [u32; 18],
+    pub plus: u64,
+    pub minus: u64,
 }
 
 impl Number {
@@ -20,22 +15,17 @@ impl Number {
     fn zero() -> Number
         ensures { λ r. ⌜ Parts r 0 0 ⌝ }
     {
-        Number {
-            plus: [0u32; 18],
-            minus: [0u32; 18],
-        }
+        Number { plus: 0, minus: 0 }
     }
 
     // The number twice.
     fn doubled(self) -> Number
         requires { ⌜ Roomy self ⌝ }
-        ensures { λ r. ⌜ Parts r (2 * value (self .plus)) (2 * value (self .minus)) ⌝ }
+        ensures { λ r. ⌜ Parts r (2 * self .plus) (2 * self .minus) ⌝ }
     {
-        let plus = self.plus;
-        let minus = self.minus;
         Number {
-            plus: crate::limbs::mul_add(plus, 2, 0),
-            minus: crate::limbs::mul_add(minus, 2, 0),
+            plus: 2 * self.plus,
+            minus: 2 * self.minus,
         }
     }
 
@@ -46,29 +36,21 @@ impl Number {
     {
         let plus = self.plus;
         let minus = self.minus;
+        let size = digit.size as u64;
         if digit.negative {
             return Number {
                 plus: plus,
-                minus: crate::limbs::mul_add(minus, 1, digit.size),
+                minus: minus + size,
             };
         }
         Number {
-            plus: crate::limbs::mul_add(plus, 1, digit.size),
+            plus: plus + size,
             minus: minus,
         }
     }
-
-    // Whether the number is k.
-    pub fn is(self, k: [u32; 18]) -> bool
-        ensures { λ r. ⌜ r ≡ eqb (value k + value (self .minus)) (value (self .plus)) ⌝ }
-    {
-        let plus = self.plus;
-        let minus = self.minus;
-        crate::limbs::is_sum(k, minus, plus)
-    }
 }
 
-// The accumulator aP + bQ.
+// The accumulator aP + bQ, as far as it stands in no limb yet.
 pub struct Accumulator {
     pub p: Number,
     pub q: Number,
@@ -120,22 +102,6 @@ impl Accumulator {
         Accumulator {
             p: p.added(t.p),
             q: q.added(t.q),
-        }
-    }
-
-    // The accumulator after one line more.
-    pub fn after(self, line: Line) -> Accumulator
-        requires { ⌜ Roomy (self .p) × Roomy (self .q) ⌝ }
-        ensures { λ r. ⌜ ((x : meant.Line) → line ≡ coded x → Moved self x r) ⌝ }
-    {
-        match line {
-            Line::Head(_) => self,
-            Line::Table(_) => self,
-            Line::Load(t) => self.loaded(t),
-            Line::Double => self.doubled(),
-            Line::Add(t) => self.added(t),
-            Line::End => self,
-            Line::Misspelled => self,
         }
     }
 }

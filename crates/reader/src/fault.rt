@@ -5,12 +5,12 @@ ghost use Rattle.reader.specs.State.{found, earlier};
 // The line at which a question is missed, if it is.
 pub enum Fault {
     Nowhere,
-    At(usize),
+    At(u32),
 }
 
 impl Fault {
     // The same fault, or where there is none yet one at the line, unless the test is met.
-    pub fn or(self, met: bool, line: usize) -> Fault
+    pub fn or(self, met: bool, line: u32) -> Fault
         ensures { λ r. ⌜ found r ≡ earlier (found self) (unless met line) ⌝ }
     {
         match self {

@@ -37,7 +37,7 @@ fn counts_and_result(sheet: &[u8], header: Header, state: State) -> Judgement
     if doublings != counted_doublings {
         return Judgement::Refused(10, 1);
     }
-    if crate::outcome::is_right(sheet) {
+    if crate::outcome::is_right(sheet, state.doubles_taken()) {
         return Judgement::Accepted;
     }
     Judgement::Refused(11, 1)
@@ -55,11 +55,11 @@ fn questions(sheet: &[u8], header: Header, state: State) -> Judgement
     let disallowed = steps.fault;
     let excess = doubles.fault;
     match off_plan {
-        Fault::At(line) => Judgement::Refused(7, line),
+        Fault::At(line) => Judgement::Refused(7, line as usize),
         Fault::Nowhere => match disallowed {
-            Fault::At(line) => Judgement::Refused(8, line),
+            Fault::At(line) => Judgement::Refused(8, line as usize),
             Fault::Nowhere => match excess {
-                Fault::At(line) => Judgement::Refused(9, line),
+                Fault::At(line) => Judgement::Refused(9, line as usize),
                 Fault::Nowhere => counts_and_result(sheet, header, state),
             },
         },
@@ -76,6 +76,6 @@ pub fn read(sheet: &[u8]) -> Judgement
     let survey = crate::scan::surveyed(sheet);
     match survey {
         Survey::Met(header, state) => questions(sheet, header, state),
-        Survey::Misplaced(line) => Judgement::Refused(6, line),
+        Survey::Misplaced(line) => Judgement::Refused(6, line as usize),
     }
 }

@@ -1,99 +1,94 @@
 ghost use mathlib.Core.Path.{_≡_};
 ghost use mathlib.Core.Bool.{true};
-ghost use Prim.Native.Nat.{_+_, _*_, _%_, _<_, _≤_};
+ghost use Prim.Native.Nat.{_+_, _≤_};
 ghost use lib.Dec.{eqb};
 ghost use lib.ListN.{length};
 ghost use Rattle.sheet.specs.Numeral.{figures, followed};
-ghost use Rattle.reader.specs.Limbs.{limb, limbs, scale, value};
+ghost use Rattle.reader.specs.Limbs.{limb, value, Low, Zeros, Below};
 
-// The limbs of a natural number, the least significant first.
-const LIMBS: usize = 18;
+// The limbs of a sum.
+const LIMBS: usize = 34;
 
-// One limb more than the largest.
-const LIMB: u64 = 4294967296;
+// One more than the largest limb of a scalar.
+const LIMB: u64 = 65536;
 
-// A limb, and what is carried to the next.
-pub struct Carried {
-    pub limb: u32,
-    pub carry: u32,
+// A whole number in limbs, the least significant first: what was added to it, and what was taken off it.
+pub struct Sum {
+    pub plus: [u64; 34],
+    pub minus: [u64; 34],
 }
 
-// One limb of m times a number, with what is carried to it.
-fn times(x: u32, m: u32, carry: u32) -> Carried
-    ensures { λ r. ⌜ (r .limb + limb * r .carry ≡ m * x + carry) × (r .limb < limb) ⌝ }
+// The low figures of a scalar, and where they begin.
+pub struct Figures {
+    pub value: u64,
+    pub start: usize,
+}
+
+// The figure before a place of the scalar; 0 where there is none.
+fn figure_before(scalar: &[u8], end: usize) -> Figures
+    requires { ⌜ (end ≤ length (now scalar)) × (figures 16 (now scalar) ≡ true) ⌝ }
+    ensures { λ r. ⌜ Below 16 1 (now (scalar .entry)) end r ⌝ }
 {
-    let t = x as u64 * m as u64 + carry as u64;
-    Carried {
-        limb: (t % LIMB) as u32,
-        carry: (t / LIMB) as u32,
+    if end == 0 {
+        return Figures { value: 0, start: 0 };
+    }
+    let start = end - 1;
+    let figure = sheet::figures::worth_of(scalar[start]);
+    Figures {
+        value: figure as u64,
+        start: start,
     }
 }
 
-// m times the number, and c added; what is carried out of the top limb is lost.
-pub fn mul_add(x: [u32; 18], m: u32, c: u32) -> [u32; 18]
-    ensures { λ r. ⌜ value r ≡ (m * value x + c) % scale limbs ⌝ }
+// The four figures before a place of the scalar.
+fn limb_before(scalar: &[u8], end: usize) -> Figures
+    requires { ⌜ (end ≤ length (now scalar)) × (figures 16 (now scalar) ≡ true) ⌝ }
+    ensures { λ r. ⌜ Below limb 4 (now (scalar .entry)) end r ⌝ }
 {
-    let mut out = x;
-    let mut carry = c;
-    let mut i = 0;
-    while i < LIMBS {
-        let step = times(out[i], m, carry);
-        out[i] = step.limb;
-        carry = step.carry;
-        i += 1;
-    }
-    out
-}
-
-// A limb as it is.
-fn same(x: u32) -> u32
-    ensures { λ r. ⌜ (r ≡ x) × (r < limb) ⌝ }
-{
-    x
-}
-
-// One limb of a sum, with what is carried to it.
-fn plus(x: u32, y: u32, carry: u32) -> Carried
-    requires { ⌜ carry ≤ 1 ⌝ }
-    ensures { λ r. ⌜ (r .limb + limb * r .carry ≡ x + y + carry) × ((r .limb < limb) × (r .carry ≤ 1)) ⌝ }
-{
-    let t = x as u64 + y as u64 + carry as u64;
-    Carried {
-        limb: (t % LIMB) as u32,
-        carry: (t / LIMB) as u32,
+    let a = figure_before(scalar, end);
+    let b = figure_before(scalar, a.start);
+    let c = figure_before(scalar, b.start);
+    let d = figure_before(scalar, c.start);
+    Figures {
+        value: a.value + 16 * b.value + 256 * c.value + 4096 * d.value,
+        start: d.start,
     }
 }
 
-// Whether the sum of two numbers is a third.
-pub fn is_sum(x: [u32; 18], y: [u32; 18], z: [u32; 18]) -> bool
-    ensures { λ r. ⌜ r ≡ eqb (value x + value y) (value z) ⌝ }
-{
-    let mut carry = 0;
-    let mut i = 0;
-    while i < LIMBS {
-        let step = plus(x[i], y[i], carry);
-        let right = same(z[i]);
-        if step.limb != right {
-            return false;
+impl Sum {
+    // Nothing yet.
+    pub fn zero() -> Sum
+        ensures { λ r. ⌜ Zeros (r .plus) × Zeros (r .minus) ⌝ }
+    {
+        Sum {
+            plus: [0u64; 34],
+            minus: [0u64; 34],
         }
-        carry = step.carry;
-        i += 1;
     }
-    carry == 0
-}
 
-// The number of at most 132 hexadecimal figures.
-pub fn scalar_of(field: &[u8]) -> [u32; 18]
-    requires { ⌜ (length (now field) ≤ 132) × (figures 16 (now field) ≡ true) ⌝ }
-    ensures { λ r. ⌜ value r ≡ followed 16 0 (now (field .entry)) ⌝ }
-{
-    let mut x = [0u32; 18];
-    let mut i = 0;
-    while i < field.len() {
-        let figure = sheet::figures::worth_of(field[i]);
-        let next = mul_add(x, 16, figure);
-        x = next;
-        i += 1;
+    // Whether the number is that of the scalar's figures.
+    pub fn is(self, scalar: &[u8]) -> bool
+        requires { ⌜ (Low (self .plus) × Low (self .minus)) × ((length (now scalar) ≤ 132) × (figures 16 (now scalar) ≡ true)) ⌝ }
+        ensures { λ r. ⌜ r ≡ eqb (followed 16 0 (now (scalar .entry)) + value (self .minus)) (value (self .plus)) ⌝ }
+    {
+        let plus = self.plus;
+        let minus = self.minus;
+        let mut end = scalar.len();
+        let mut left = 0;
+        let mut right = 0;
+        let mut i = 0;
+        while i < LIMBS {
+            let low = limb_before(scalar, end);
+            let a = low.value + minus[i] + left;
+            let b = plus[i] + right;
+            if a % LIMB != b % LIMB {
+                return false;
+            }
+            end = low.start;
+            left = a / LIMB;
+            right = b / LIMB;
+            i += 1;
+        }
+        left == right
     }
-    x
 }

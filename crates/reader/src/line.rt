@@ -1,17 +1,21 @@
 ghost use mathlib.Core.Path.{_≡_};
-ghost use mathlib.Core.Option.{some};
+ghost use mathlib.Core.Bool.{true};
+ghost use mathlib.Core.Option.{Option, some};
 ghost use mathlib.Core.List.{[]};
 ghost use Prim.Native.Nat.{_<_};
 ghost use lib.ListN.{length, getD};
 ghost use Rattle.digits.specs.Limits.{card};
+ghost use Rattle.sheet.specs.Plan as meant;
 ghost use Rattle.sheet.specs.Line.{header};
-ghost use Rattle.sheet.specs.Spelling.{comma, cut, sized, made, readKind, readHeader, readPoint, readLine};
-ghost use Rattle.reader.specs.Coded.{kindOf, codedHeading, coded, pointed, Took};
+ghost use Rattle.sheet.specs.Spelling.{comma, cut, sized, made, readKind, readHeader, readLine};
+ghost use Rattle.reader.specs.Coded.{kindOf, codedPair, codedHeading, coded, pointed, stepped, Doubles, Took};
 use crate::point::Pair;
 use crate::point::Point;
 use sheet::figures::Decimal;
 
 pub const LINE_FEED: u8 = b'\n';
+
+const COMMA: u8 = b',';
 
 // S,kind,m1,m2,slots,additions,doublings,k,l without k and l, which stay on the sheet.
 pub struct Header {
@@ -102,11 +106,10 @@ fn heading_of(s: &[u8]) -> Heading
 }
 
 // The header line of its fields.
-fn head_line(s: &[u8], count: usize) -> Line
-    requires { ⌜ count ≡ length (cut comma (now s)) ⌝ }
+fn head_line(s: &[u8]) -> Line
     ensures { λ r. ⌜ r ≡ coded (sized 9 (cut comma (now (s .entry))) (made header (readHeader card (cut comma (now (s .entry)))))) ⌝ }
 {
-    if count == 9 {
+    if sheet::fields::count(s) == 9 {
         let heading = heading_of(s);
         let Heading::Is(header) = heading else {
             return Line::Misspelled;
@@ -120,34 +123,44 @@ fn head_line(s: &[u8], count: usize) -> Line
 pub fn line_of(s: &[u8]) -> Line
     ensures { λ r. ⌜ r ≡ coded (readLine card (now (s .entry))) ⌝ }
 {
-    let letter = sheet::fields::letter_of(sheet::fields::field(s, 0));
-    let count = sheet::fields::count(s);
+    let end = sheet::fields::find(s, COMMA);
+    let letter = sheet::fields::letter_of(&s[..end]);
     if letter == b'S' {
-        return head_line(s, count);
+        return head_line(s);
+    }
+    if end < s.len() {
+        let from = end + 1;
+        return step_line(&s[from..], letter);
     }
     if letter == b'D' {
-        if count == 1 {
-            return Line::Double;
-        }
-        return Line::Misspelled;
+        return Line::Double;
     }
     if letter == b'E' {
-        if count == 1 {
-            return Line::End;
-        }
-        return Line::Misspelled;
+        return Line::End;
     }
-    if count == 3 {
-        return step_line(s, letter);
+    Line::Misspelled
+}
+
+// The line of a letter and the fields behind it, which are to be two.
+fn step_line(s: &[u8], letter: u8) -> Line
+    ensures { λ r. ⌜ r ≡ coded (stepped letter (cut comma (now (s .entry)))) ⌝ }
+{
+    let end = sheet::fields::find(s, COMMA);
+    if end < s.len() {
+        let from = end + 1;
+        let last = &s[from..];
+        if sheet::fields::find(last, COMMA) < last.len() {
+            return Line::Misspelled;
+        }
+        return point_line(crate::point::point_of(&s[..end], last), letter);
     }
     Line::Misspelled
 }
 
 // The line of a letter and a point.
-fn step_line(s: &[u8], letter: u8) -> Line
-    ensures { λ r. ⌜ r ≡ coded (pointed letter (readPoint (cut comma (now (s .entry))))) ⌝ }
+fn point_line(pair: Pair, letter: u8) -> Line
+    ensures { λ r. ⌜ ((o : Option meant.Point) → pair ≡ codedPair o → r ≡ coded (pointed letter o)) ⌝ }
 {
-    let pair = crate::point::point_of(s);
     let Pair::Is(point) = pair else {
         return Line::Misspelled;
     };
@@ -163,12 +176,31 @@ fn step_line(s: &[u8], letter: u8) -> Line
     Line::Misspelled
 }
 
+// Whether a D line comes first.
+fn is_double(s: &[u8]) -> bool
+    ensures { λ r. ⌜ (r ≡ true → Doubles (now (s .entry))) ⌝ }
+{
+    if s.len() < 2 {
+        return false;
+    }
+    if s[0] == b'D' {
+        return s[1] == LINE_FEED;
+    }
+    false
+}
+
 // The line that begins at a place of the sheet.
 pub fn line_at(sheet: &[u8], at: usize) -> Taken
     requires { ⌜ at < length (now sheet) ⌝ }
     ensures { λ r. ⌜ Took (now (sheet .entry)) at (r .line) (r .next) ⌝ }
 {
     let rest = &sheet[at..];
+    if is_double(rest) {
+        return Taken {
+            line: Line::Double,
+            next: at + 2,
+        };
+    }
     let end = sheet::fields::find(rest, LINE_FEED);
     if end < rest.len() {
         let line = line_of(&rest[..end]);

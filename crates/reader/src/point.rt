@@ -1,5 +1,6 @@
 ghost use mathlib.Core.Path.{_≡_};
-ghost use Rattle.sheet.specs.Spelling.{comma, cut, readDigit, readPoint, plain, negative};
+ghost use mathlib.Core.List.{[], _∷_};
+ghost use Rattle.sheet.specs.Spelling.{readDigit, readPoint, plain, negative};
 ghost use Rattle.reader.specs.Coded.{optionOf, codedDigit, codedPair};
 use sheet::figures::Decimal;
 
@@ -73,17 +74,27 @@ pub fn digit_of(field: &[u8]) -> Digit
     plain(size)
 }
 
-// The point of the fields behind a letter.
-pub fn point_of(s: &[u8]) -> Pair
-    ensures { λ r. ⌜ r ≡ codedPair (readPoint (cut comma (now (s .entry)))) ⌝ }
+// The point of two fields.
+pub fn point_of(p: &[u8], q: &[u8]) -> Pair
+    ensures { λ r. ⌜ r ≡ codedPair (readPoint ([] ∷ now (p .entry) ∷ now (q .entry) ∷ [])) ⌝ }
 {
-    let first = digit_of(sheet::fields::field(s, 1));
-    let Digit::Is(p) = first else {
+    let first = digit_of(p);
+    let Digit::Is(a) = first else {
         return Pair::None;
     };
-    let second = digit_of(sheet::fields::field(s, 2));
-    let Digit::Is(q) = second else {
+    let second = digit_of(q);
+    let Digit::Is(b) = second else {
         return Pair::None;
     };
-    Pair::Is(Point { p: p, q: q })
+    // Field by field: a load of a whole number would wait for the two stores that made it.
+    Pair::Is(Point {
+        p: Signed {
+            negative: a.negative,
+            size: a.size,
+        },
+        q: Signed {
+            negative: b.negative,
+            size: b.size,
+        },
+    })
 }

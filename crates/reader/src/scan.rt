@@ -18,13 +18,13 @@ use crate::state::Step;
 // The state at the end of the lines, or the first line out of place.
 pub enum Scan {
     Met(State),
-    Misplaced(usize),
+    Misplaced(u32),
 }
 
 // The same of a whole sheet, with its header.
 pub enum Survey {
     Met(Header, State),
-    Misplaced(usize),
+    Misplaced(u32),
 }
 
 // The state behind the last line: a line may be missing.

@@ -1,4 +1,6 @@
 ghost use mathlib.Core.Path.{_≡_};
+ghost use Prim.Native.Nat.{_+_, _≤_};
+ghost use Rattle.digits.specs.Limits.{card};
 ghost use Rattle.sheet.specs.Line as meant;
 ghost use Rattle.sheet.specs.Plan as plans;
 ghost use Rattle.sheet.specs.Plan.{slots};
@@ -34,7 +36,7 @@ pub enum Phase {
 // What the lines so far say to each question.
 pub struct State {
     pub plan: Plan,
-    pub line: usize,
+    pub line: u32,
     pub phase: Phase,
     pub tables: Tables,
     pub steps: Steps,
@@ -264,6 +266,15 @@ impl State {
             additions: self.additions,
             doublings: self.doublings,
         }
+    }
+
+    // The D lines so far, of those that a sheet may have.
+    pub fn doubles_taken(self) -> usize
+        requires { ⌜ self .doubles .left ≤ card .doublings ⌝ }
+        ensures { λ r. ⌜ r + self .doubles .left ≡ card .doublings ⌝ }
+    {
+        let doubles = self.doubles;
+        MOST_DOUBLES - doubles.left
     }
 
     // The state behind the T lines or at one of them, after one line more.

@@ -81,7 +81,7 @@ fn turn_of(plan: Plan, t: Point) -> u32
 
 impl Steps {
     // One step more in its place.
-    pub fn taken(self, plan: Plan, t: Point, line: usize) -> Steps
+    pub fn taken(self, plan: Plan, t: Point, line: u32) -> Steps
         ensures { λ r. ⌜ StepTaken plan self t line r ⌝ }
     {
         let before = self.turn;
@@ -109,7 +109,7 @@ impl Steps {
 
 impl Doubles {
     // One D line more.
-    pub fn taken(self, line: usize) -> Doubles
+    pub fn taken(self, line: u32) -> Doubles
         ensures { λ r. ⌜ DoubleTaken self line r ⌝ }
     {
         let left = self.left;

@@ -134,7 +134,7 @@ fn table_lines(plan: Plan) -> usize
 
 impl Tables {
     // One T line more.
-    pub fn taken(self, plan: Plan, t: Point, line: usize) -> Tables
+    pub fn taken(self, plan: Plan, t: Point, line: u32) -> Tables
         requires { ⌜ self .count < 2147483647 ⌝ }
         ensures { λ r. ⌜ TableTaken plan self t line r ⌝ }
     {
@@ -149,7 +149,7 @@ impl Tables {
     }
 
     // No more T lines: the line is the one after them.
-    pub fn closed(self, plan: Plan, line: usize) -> Tables
+    pub fn closed(self, plan: Plan, line: u32) -> Tables
         ensures { λ r. ⌜ TablesClosed plan self line r ⌝ }
     {
         let count = self.count;

@@ -9,17 +9,26 @@ use Rattle.reader.proofs.judge.questions.Tie as tie
 enum-known-off-plan : tie.Need-enum-known-off-plan
 enum-known-off-plan c = search needs
 
+cast-t14 : tie.Need-cast-t14
+cast-t14 c = search needs
+
 enum-told : tie.Need-enum-told
 enum-told c = search needs
 
 enum-known-disallowed : tie.Need-enum-known-disallowed
 enum-known-disallowed c = search needs
 
+cast-t16 : tie.Need-cast-t16
+cast-t16 c = search needs
+
 enum-told-2 : tie.Need-enum-told-2
 enum-told-2 c = search needs
 
 enum-known-excess : tie.Need-enum-known-excess
 enum-known-excess c = search needs
+
+cast-t18 : tie.Need-cast-t18
+cast-t18 c = search needs
 
 enum-told-3 : tie.Need-enum-told-3
 enum-told-3 c = search needs
@@ -44,10 +53,13 @@ questions-spec =
     tie.close
     (tie.spec
     enum-known-off-plan
+    cast-t14
     enum-told
     enum-known-disallowed
+    cast-t16
     enum-told-2
     enum-known-excess
+    cast-t18
     enum-told-3
     counts-and-result-requires
     returns

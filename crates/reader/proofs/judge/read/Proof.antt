@@ -23,6 +23,9 @@ questions-requires c κs = (c .before .before .before .before .if1 .left, subst 
 enum-known-survey-2 : tie.Need-enum-known-survey-2
 enum-known-survey-2 c = search needs
 
+cast-t9 : tie.Need-cast-t9
+cast-t9 c = search needs
+
 returns-2 : tie.Need-returns-2
 returns-2 c = c .questions .ensures ∙ short-enough (c .before .before .before .before .before .before .before .args .sheet .now) (c .before .before .before .before .before .if1 .left)
 
@@ -40,5 +43,6 @@ read-spec =
     enum-known-survey
     questions-requires
     enum-known-survey-2
+    cast-t9
     returns-2
     returns-3)

@@ -9,6 +9,9 @@ use borrow.Author.Needs.{needs}
 use Rattle.reader.proofs.line.head_line.Statement.{statement}
 use Rattle.reader.proofs.line.head_line.Tie as tie
 
+count-requires : tie.Need-count-requires
+count-requires c κs = search needs
+
 heading-of-requires : tie.Need-heading-of-requires
 heading-of-requires c κs = search needs
 
@@ -20,22 +23,22 @@ enum-told c = search needs
 
 returns : tie.Need-returns
 returns c =
-    let fs = cut comma (c .before .before .before .before .before .args .s .now) in
+    let fs = cut comma (c .before .before .before .before .before .before .args .s .now) in
     heading-lost (readHeader card fs) (sym (c .before .before .heading-of .ensures) ∙ c .enum-told .given .1)
-    ∙ ap coded (sized-right 9 fs (made header (readHeader card fs)) (sym (c .before .before .before .before .before .pre) ∙ c .before .before .before .if1 .taken))
+    ∙ ap coded (sized-right 9 fs (made header (readHeader card fs)) (sym (c .before .before .before .before .count .ensures) ∙ c .before .before .before .if1 .taken))
 
 returns-2 : tie.Need-returns-2
 returns-2 c =
-    let fs = cut comma (c .before .before .before .before .before .before .args .s .now) in
+    let fs = cut comma (c .before .before .before .before .before .before .before .args .s .now) in
     heading-some (readHeader card fs) _ (sym (c .before .before .before .heading-of .ensures) ∙ c .before .heading .given .1)
-    ∙ ap coded (sized-right 9 fs (made header (readHeader card fs)) (sym (c .before .before .before .before .before .before .pre) ∙ c .before .before .before .before .if1 .taken))
+    ∙ ap coded (sized-right 9 fs (made header (readHeader card fs)) (sym (c .before .before .before .before .before .count .ensures) ∙ c .before .before .before .before .if1 .taken))
 
 returns-3 : tie.Need-returns-3
 returns-3 c =
-    let fs = cut comma (c .before .before .args .s .now) in
-    ap coded (sized-wrong 9 fs (made header (readHeader card fs)) (λ e. c .if1 .left ((c .before .before .pre) ∙ e)))
+    let fs = cut comma (c .before .before .before .args .s .now) in
+    ap coded (sized-wrong 9 fs (made header (readHeader card fs)) (λ e. c .if1 .left (c .before .count .ensures ∙ e)))
 
 pub head-line-spec : {M : Type 1} → statement M
 head-line-spec =
     tie.close
-    (tie.spec heading-of-requires enum-known-heading enum-told returns returns-2 returns-3)
+    (tie.spec count-requires heading-of-requires enum-known-heading enum-told returns returns-2 returns-3)

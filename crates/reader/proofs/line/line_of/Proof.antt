@@ -1,21 +1,25 @@
--- `line_of` meets its contract: each letter is one line of LineRead.
+-- `line_of` meets its contract: the letter ends at the first comma; each kind of line is one law of LineRead.
+use native.Mathlib.Omega.{arith}
 use mathlib.Core.Path.{sym, ap, _∙_}
-use Rattle.sheet.specs.Line.{double, end}
-use Rattle.sheet.specs.Spelling.{comma, cut, letter}
-use Rattle.reader.specs.Coded.{coded}
-use Rattle.reader.proofs.LineRead.{behind-S, behind-D, behind-E, behind-step, behind-lost, sized-right, sized-wrong, line-behind}
+use mathlib.Core.List.{List}
+use Prim.Native.Nat.{ℕ, _+_}
+use lib.Seq.{length-take-le}
+use Rattle.sheet.specs.Spelling.{comma, cut}
+use Rattle.sheet.proofs.CutTurns.{to-end}
+use Rattle.reader.specs.Coded.{coded, stepped}
+use Rattle.reader.proofs.LineRead.{behind-S, alone-D, alone-E, alone-lost, line-first, line-alone, line-more}
 use borrow.Author.Needs.{needs}
 use Rattle.reader.proofs.line.line_of.Statement.{statement}
 use Rattle.reader.proofs.line.line_of.Tie as tie
 
-field-requires : tie.Need-field-requires
-field-requires c κs = search needs
+find-requires : tie.Need-find-requires
+find-requires c κs = search needs
+
+slice-aggregate-letter-of : tie.Need-slice-aggregate-letter-of
+slice-aggregate-letter-of c = sym (length-take-le (c .before .find .result) _ (c .before .find .ensures .most))
 
 letter-of-requires : tie.Need-letter-of-requires
 letter-of-requires c κs = search needs
-
-count-requires : tie.Need-count-requires
-count-requires c κs = search needs
 
 head-line-requires : tie.Need-head-line-requires
 head-line-requires c κs = search needs
@@ -23,55 +27,60 @@ head-line-requires c κs = search needs
 returns : tie.Need-returns
 returns c =
     let s = c .before .before .before .before .before .before .args .s .now in
-    c .head-line .ensures ∙ ap coded (sym (behind-S _ (cut comma s) (c .before .if1 .taken)) ∙ line-behind s _ (c .before .before .before .letter-of .ensures ∙ ap letter (c .before .before .before .before .field .ensures)))
+    c .head-line .ensures ∙ ap coded (sym (behind-S _ (cut comma s) (c .before .if1 .taken)) ∙ line-first s _ _ (c .before .before .before .before .find .ensures) (c .before .before .letter-of .ensures))
 
-returns-2 : tie.Need-returns-2
-returns-2 c =
-    let s = c .before .before .before .before .before .before .before .args .s .now in
-    ap coded (sized-right 1 (cut comma s) double (sym (c .before .before .before .count .ensures) ∙ c .if3 .taken) ∙ sym (behind-D _ (cut comma s) (c .before .if2 .taken)) ∙ line-behind s _ (c .before .before .before .before .letter-of .ensures ∙ ap letter (c .before .before .before .before .before .field .ensures)))
+add-from : tie.Need-add-from
+add-from c = search needs
 
-returns-3 : tie.Need-returns-3
-returns-3 c =
-    let s = c .before .before .before .before .before .before .before .args .s .now in
-    ap coded (sized-wrong 1 (cut comma s) double (λ e. c .if3 .left (c .before .before .before .count .ensures ∙ e)) ∙ sym (behind-D _ (cut comma s) (c .before .if2 .taken)) ∙ line-behind s _ (c .before .before .before .before .letter-of .ensures ∙ ap letter (c .before .before .before .before .before .field .ensures)))
+sub-step-line : tie.Need-sub-step-line
+sub-step-line c = search needs
 
-returns-4 : tie.Need-returns-4
-returns-4 c =
-    let s = c .before .before .before .before .before .before .before .before .args .s .now in
-    ap coded (sized-right 1 (cut comma s) end (sym (c .before .before .before .before .count .ensures) ∙ c .if5 .taken) ∙ sym (behind-E _ (cut comma s) (c .before .if4 .taken)) ∙ line-behind s _ (c .before .before .before .before .before .letter-of .ensures ∙ ap letter (c .before .before .before .before .before .before .field .ensures)))
+part-step-line-start : tie.Need-part-step-line-start
+part-step-line-start c = search needs
 
-returns-5 : tie.Need-returns-5
-returns-5 c =
-    let s = c .before .before .before .before .before .before .before .before .args .s .now in
-    ap coded (sized-wrong 1 (cut comma s) end (λ e. c .if5 .left (c .before .before .before .before .count .ensures ∙ e)) ∙ sym (behind-E _ (cut comma s) (c .before .if4 .taken)) ∙ line-behind s _ (c .before .before .before .before .before .letter-of .ensures ∙ ap letter (c .before .before .before .before .before .before .field .ensures)))
+part-step-line-end : tie.Need-part-step-line-end
+part-step-line-end c = search needs
 
 step-line-requires : tie.Need-step-line-requires
 step-line-requires c κs = search needs
 
-returns-6 : tie.Need-returns-6
-returns-6 c =
-    let s = c .before .before .before .before .before .before .before .before .before .args .s .now in
-    c .step-line .ensures
-    ∙ ap coded (sym (behind-step _ (cut comma s) (c .before .before .before .before .if1 .left) (c .before .before .before .if2 .left) (c .before .before .if4 .left) (sym (c .before .before .before .before .before .count .ensures) ∙ c .before .if6 .taken)) ∙ line-behind s _ (c .before .before .before .before .before .before .letter-of .ensures ∙ ap letter (c .before .before .before .before .before .before .before .field .ensures)))
-
-returns-7 : tie.Need-returns-7
-returns-7 c =
+returns-2 : tie.Need-returns-2
+returns-2 c =
     let s = c .before .before .before .before .before .before .before .before .args .s .now in
-    ap coded (behind-lost _ (cut comma s) (c .before .before .before .if1 .left) (c .before .before .if2 .left) (c .before .if4 .left) (λ e. c .if6 .left (c .before .before .before .before .count .ensures ∙ e)) ∙ line-behind s _ (c .before .before .before .before .before .letter-of .ensures ∙ ap letter (c .before .before .before .before .before .before .field .ensures)))
+    c .step-line .ensures
+    ∙ ap (λ (l : List ℕ). coded (stepped (c .before .before .before .before .letter-of .result) (cut comma l))) (to-end s (c .before .before .before .before .before .before .find .result + 1))
+    ∙ ap coded (line-more s _ _ (c .before .before .before .before .before .before .find .ensures) (c .before .before .before .before .letter-of .ensures) (c .before .before .if2 .taken) (c .before .before .before .if1 .left))
+
+returns-3 : tie.Need-returns-3
+returns-3 c =
+    let s = c .before .before .before .before .before .before .before .args .s .now in
+    ap coded (alone-D _ s (c .if3 .taken) ∙ line-alone s _ _ (c .before .before .before .before .before .find .ensures) (c .before .before .before .letter-of .ensures) (omega arith))
+
+returns-4 : tie.Need-returns-4
+returns-4 c =
+    let s = c .before .before .before .before .before .before .before .before .args .s .now in
+    ap coded (alone-E _ s (c .if4 .taken) ∙ line-alone s _ _ (c .before .before .before .before .before .before .find .ensures) (c .before .before .before .before .letter-of .ensures) (omega arith))
+
+returns-5 : tie.Need-returns-5
+returns-5 c =
+    let s = c .before .before .before .before .before .before .before .before .args .s .now in
+    ap coded (alone-lost _ s (c .before .before .before .if1 .left) (c .before .if3 .left) (c .if4 .left) ∙ line-alone s _ _ (c .before .before .before .before .before .before .find .ensures) (c .before .before .before .before .letter-of .ensures) (omega arith))
 
 pub line-of-spec : {M : Type 1} → statement M
 line-of-spec =
     tie.close
     (tie.spec
-    field-requires
+    find-requires
+    slice-aggregate-letter-of
     letter-of-requires
-    count-requires
     head-line-requires
     returns
+    add-from
+    sub-step-line
+    part-step-line-start
+    part-step-line-end
+    step-line-requires
     returns-2
     returns-3
     returns-4
-    returns-5
-    step-line-requires
-    returns-6
-    returns-7)
+    returns-5)

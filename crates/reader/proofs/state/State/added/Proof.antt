@@ -6,7 +6,7 @@ use lib.ListN.{drop}
 use Rattle.sheet.specs.Plan.{tables}
 use Rattle.sheet.specs.Line.{add}
 use Rattle.reader.specs.State.{earlier, found}
-use Rattle.reader.proofs.StateTurns.{in-steps, differs-steps, load-add, excess-add, adds-add, doubles-add}
+use Rattle.reader.proofs.StateTurns.{in-steps, differs-steps, load-add, excess-add, left-add, adds-add, doubles-add}
 use borrow.Author.Needs.{needs}
 use Rattle.reader.proofs.state.State.added.Statement.{statement}
 use Rattle.reader.proofs.state.State.added.Tie as tie
@@ -33,6 +33,7 @@ returns c =
       offPlan = λ ls. ap (earlier (found (s .tables .fault))) (differs-steps (s .phase) (s .line) (drop (s .tables .count) (tables (s .plan))) (add x ∷ ls) (c .before .before .before .before .before .pre .1));
       disallowed = λ ls. c .before .before .taken .ensures .added x e ls;
       excess = λ ls. ap (earlier (found (s .doubles .fault))) (excess-add (s .line) ls x (s .doubles .left));
+      left = λ ls. left-add (s .line) ls x (s .doubles .left);
       additions = λ ls. adds-add (s .line) ls x (s .additions);
       doublings = λ ls. doubles-add (s .line) ls x (s .doublings);
     }

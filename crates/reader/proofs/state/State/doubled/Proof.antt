@@ -8,9 +8,9 @@ use lib.ListN.{drop}
 use Rattle.sheet.specs.Plan.{point, tables}
 use Rattle.sheet.specs.Line.{double}
 use Rattle.sheet.specs.Questions.{disallowedFrom}
-use Rattle.reader.specs.State.{earlier, found}
+use Rattle.reader.specs.State.{earlier, found, leftAfter}
 use Rattle.reader.specs.declared.fault.Fault.{Fault}
-use Rattle.reader.proofs.StateTurns.{in-steps, differs-steps, load-double, disallowed-double, adds-d, doubles-d}
+use Rattle.reader.proofs.StateTurns.{in-steps, differs-steps, load-double, disallowed-double, left-double, adds-d, doubles-d}
 use borrow.Author.Needs.{needs}
 use Rattle.reader.proofs.state.State.doubled.Statement.{statement}
 use Rattle.reader.proofs.state.State.doubled.Tie as tie
@@ -42,6 +42,7 @@ returns c =
           ap₂ (λ (f : Fault) (t : ℕ). earlier (found f) (disallowedFrom (s .plan) t (s .line + 1) ls)) (c .before .before .before .lowered .ensures .1) (c .before .before .before .lowered .ensures .0)
           ∙ ap (earlier (found (s .steps .fault))) (disallowed-double (s .line) ls x (s .plan) (s .steps .turn));
       excess = λ ls. c .before .taken .ensures .rest ls;
+      left = λ ls. ap (λ (n : ℕ). leftAfter n ls) (c .before .taken .ensures .left) ∙ left-double (s .line) ls x (s .doubles .left);
       additions = λ ls. adds-d (s .line) ls x (s .additions);
       doublings = λ ls. doubles-d (s .line) ls x (s .doublings);
     }

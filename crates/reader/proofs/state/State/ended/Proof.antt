@@ -7,7 +7,7 @@ use lib.ListN.{drop}
 use Rattle.sheet.specs.Plan.{point, tables}
 use Rattle.sheet.specs.Line.{end}
 use Rattle.reader.specs.State.{earlier, found}
-use Rattle.reader.proofs.StateTurns.{in-steps, differs-steps, load-end, disallowed-end, excess-end, adds-end, doubles-end}
+use Rattle.reader.proofs.StateTurns.{in-steps, differs-steps, load-end, disallowed-end, excess-end, left-end, adds-end, doubles-end}
 use borrow.Author.Needs.{needs}
 use Rattle.reader.proofs.state.State.ended.Statement.{statement}
 use Rattle.reader.proofs.state.State.ended.Tie as tie
@@ -28,6 +28,7 @@ returns c =
       offPlan = λ ls. ap (earlier (found (s .tables .fault))) (differs-steps (s .phase) (s .line) (drop (s .tables .count) (tables (s .plan))) (end ∷ ls) (c .before .before .before .pre .1));
       disallowed = λ ls. ap (earlier (found (s .steps .fault))) (disallowed-end (s .line) ls x (s .plan) (s .steps .turn));
       excess = λ ls. ap (earlier (found (s .doubles .fault))) (excess-end (s .line) ls x (s .doubles .left));
+      left = λ ls. left-end (s .line) ls x (s .doubles .left);
       additions = λ ls. adds-end (s .line) ls x (s .additions);
       doublings = λ ls. doubles-end (s .line) ls x (s .doublings);
     }

@@ -9,7 +9,7 @@ use Rattle.sheet.specs.Line.{end}
 use Rattle.sheet.specs.Questions.{differs}
 use Rattle.reader.specs.State.{earlier, found}
 use Rattle.reader.proofs.Taken.{earlier-none}
-use Rattle.reader.proofs.StateTurns.{in-tables, differs-tables, header-end, lines-end, disallowed-end, excess-end, adds-end, doubles-end}
+use Rattle.reader.proofs.StateTurns.{in-tables, differs-tables, header-end, lines-end, disallowed-end, excess-end, left-end, adds-end, doubles-end}
 use borrow.Author.Needs.{needs}
 use Rattle.reader.proofs.state.State.ended_early.Statement.{statement}
 use Rattle.reader.proofs.state.State.ended_early.Tie as tie
@@ -37,6 +37,7 @@ returns c =
           ∙ ap (earlier (found (s .tables .fault))) (differs-tables (s .phase) (s .line) (drop (s .tables .count) (tables (s .plan))) (end ∷ ls) (c .before .before .before .before .pre .1));
       disallowed = λ ls. ap (earlier (found (s .steps .fault))) (disallowed-end (s .line) ls x (s .plan) (s .steps .turn));
       excess = λ ls. ap (earlier (found (s .doubles .fault))) (excess-end (s .line) ls x (s .doubles .left));
+      left = λ ls. left-end (s .line) ls x (s .doubles .left);
       additions = λ ls. adds-end (s .line) ls x (s .additions);
       doublings = λ ls. doubles-end (s .line) ls x (s .doublings);
     }

@@ -8,7 +8,7 @@ use Rattle.sheet.specs.Line.{load}
 use Rattle.sheet.specs.Questions.{differs}
 use Rattle.reader.specs.State.{earlier, found}
 use Rattle.reader.proofs.Taken.{earlier-none}
-use Rattle.reader.proofs.StateTurns.{in-tables, differs-tables, header-load, lines-load, excess-load, adds-load, doubles-load}
+use Rattle.reader.proofs.StateTurns.{in-tables, differs-tables, header-load, lines-load, excess-load, left-load, adds-load, doubles-load}
 use borrow.Author.Needs.{needs}
 use Rattle.reader.proofs.state.State.loaded.Statement.{statement}
 use Rattle.reader.proofs.state.State.loaded.Tie as tie
@@ -42,6 +42,7 @@ returns c =
           ∙ ap (earlier (found (s .tables .fault))) (differs-tables (s .phase) (s .line) (drop (s .tables .count) (tables (s .plan))) (load x ∷ ls) (c .before .before .before .before .before .before .pre .1));
       disallowed = λ ls. c .before .before .taken .ensures .loaded x e ls;
       excess = λ ls. ap (earlier (found (s .doubles .fault))) (excess-load (s .line) ls x (s .doubles .left));
+      left = λ ls. left-load (s .line) ls x (s .doubles .left);
       additions = λ ls. adds-load (s .line) ls x (s .additions);
       doublings = λ ls. doubles-load (s .line) ls x (s .doublings);
     }

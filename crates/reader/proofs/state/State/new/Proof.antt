@@ -9,7 +9,7 @@ use Rattle.sheet.specs.Plan.{tables}
 use Rattle.sheet.specs.Line.{plan}
 use Rattle.sheet.specs.Questions.{tableLines, differs, disallowedFrom, unless}
 use Rattle.reader.specs.State.{earlier, planFor, isOnPlan}
-use Rattle.reader.proofs.StateTurns.{begin-placed, begin-plan, begin-tables, begin-disallowed, begin-excess, begin-additions, begin-doublings}
+use Rattle.reader.proofs.StateTurns.{begin-placed, begin-plan, begin-tables, begin-disallowed, begin-excess, begin-left, begin-additions, begin-doublings}
 use borrow.Author.Needs.{needs}
 use Rattle.reader.proofs.state.State.new.Statement.{statement}
 use Rattle.reader.proofs.state.State.new.Tie as tie
@@ -37,6 +37,7 @@ returns c =
           ∙ begin-tables h ls (c .before .is-on-plan .result) (c .before .is-on-plan .ensures ∙ ap isOnPlan e);
       disallowed = λ ls. ap (λ (q : Plan). disallowedFrom q 0 2 ls) p ∙ begin-disallowed h ls (plan h);
       excess = λ ls. begin-excess h ls;
+      left = λ ls. begin-left h ls;
       additions = λ ls. begin-additions h ls;
       doublings = λ ls. begin-doublings h ls;
     }

@@ -7,7 +7,7 @@ use Rattle.sheet.specs.Plan.{Point, tables}
 use Rattle.sheet.specs.Line.{table}
 use Rattle.sheet.specs.Questions.{tableLines, differs}
 use Rattle.reader.specs.State.{earlier, found}
-use Rattle.reader.proofs.StateTurns.{in-tables, differs-tables, header-table, lines-table, disallowed-table, excess-table, adds-double, adds-table, doubles-double, doubles-table}
+use Rattle.reader.proofs.StateTurns.{in-tables, differs-tables, header-table, lines-table, disallowed-table, excess-table, left-table, adds-double, adds-table, doubles-double, doubles-table}
 use borrow.Author.Needs.{needs}
 use Rattle.reader.proofs.state.State.tabled.Statement.{statement}
 use Rattle.reader.proofs.state.State.tabled.Tie as tie
@@ -40,6 +40,7 @@ returns c =
           ∙ ap (earlier (found (s .tables .fault))) (differs-tables (s .phase) (s .line) (drop (s .tables .count) (tables (s .plan))) (mathlib.Core.List._∷_ (table x) ls) (c .before .before .before .before .before .before .before .pre .1));
       disallowed = λ ls. ap (earlier (found (s .steps .fault))) (disallowed-table (s .line) ls x (s .plan) (s .steps .turn));
       excess = λ ls. ap (earlier (found (s .doubles .fault))) (excess-table (s .line) ls x (s .doubles .left));
+      left = λ ls. left-table (s .line) ls x (s .doubles .left);
       additions = λ ls. adds-double (s .line) ls x (s .additions) (sym (c .before .before .is-double .ensures x e) ∙ c .before .if1 .taken);
       doublings = λ ls. doubles-double (s .line) ls x (s .doublings) (sym (c .before .before .is-double .ensures x e) ∙ c .before .if1 .taken);
     }
@@ -66,6 +67,7 @@ returns-2 c =
           ∙ ap (earlier (found (s .tables .fault))) (differs-tables (s .phase) (s .line) (drop (s .tables .count) (tables (s .plan))) (mathlib.Core.List._∷_ (table x) ls) (c .before .before .before .before .before .before .before .pre .1));
       disallowed = λ ls. ap (earlier (found (s .steps .fault))) (disallowed-table (s .line) ls x (s .plan) (s .steps .turn));
       excess = λ ls. ap (earlier (found (s .doubles .fault))) (excess-table (s .line) ls x (s .doubles .left));
+      left = λ ls. left-table (s .line) ls x (s .doubles .left);
       additions = λ ls. adds-table (s .line) ls x (s .additions) (sym (c .before .before .is-double .ensures x e) ∙ c .before .if1 .left);
       doublings = λ ls. doubles-table (s .line) ls x (s .doublings) (sym (c .before .before .is-double .ensures x e) ∙ c .before .if1 .left);
     }
