@@ -11,7 +11,7 @@ use lib.Seq.{length-take-le}
 use Rattle.digits.specs.Limits.{card}
 use Rattle.digits.specs.Scalar.{scalar}
 use Rattle.recode.specs.Call.{sized}
-use Rattle.sheet.specs.Numeral.{numeral, numeralIn, followed}
+use Rattle.sheet.specs.Numeral.{numeral, followed}
 use Rattle.sheet.specs.Plan.{isLimit}
 use Rattle.sheet.specs.Spelling.{comma, cut, lineFeed}
 use Rattle.writer.specs.Call as Call
@@ -19,14 +19,14 @@ use Rattle.writer.specs.Call.{wrote, left, number}
 use Rattle.writer.specs.declared.answer.Sheet.{Sheet}
 use Rattle.writer.specs.declared.answer.Sheet.the-variants.{BadScalar, BadWindow, NoRoom, BadLimit, Written}
 use Rattle.writer.specs.Written.{written}
+use Rattle.writer.proofs.Numerals.{numeral-low}
 use Rattle.chooser.specs.Call.{cheapestAnswer, cheapestBuffer}
 use Rattle.chooser.specs.Cheapest.{cheapestPlan, cheapest}
 use Rattle.order.proofs.Orders.{Ordered}
 use Rattle.order.specs.Order.{Order, lineOf, readFields, readOrder, refusal, served, answered, printed, Prints, orderLength, orderBuffer}
 
 numeral-one : (n : ℕ) → n < 10 → numeral 10 n ≡ (48 + n) ∷ []
-unfolding numeral numeralIn
-numeral-one n h = rw (lt-ltb n 10 h, numeralIn, lt-ltb n 10 h)
+numeral-one n h = numeral-low 10 (omega arith) n h ∙ rw (lt-ltb n 10 h)
 
 pub below-sets : (s : List ℕ) (i j x y n : ℕ) → n < length s → n < length (set (set s i x) j y)
 below-sets s i j x y n h = rw length-set (rw length-set h)
