@@ -19,7 +19,7 @@ use Rattle.writer.specs.Call.{wrote, left, number}
 use Rattle.writer.specs.declared.answer.Sheet.{Sheet}
 use Rattle.writer.specs.declared.answer.Sheet.the-variants.{BadScalar, BadWindow, NoRoom, BadLimit, Written}
 use Rattle.writer.specs.Written.{written}
-use Rattle.writer.proofs.Numerals.{numeral-low}
+use Rattle.sheet.specs.NumeralFigures.{numeral-low}
 use Rattle.chooser.specs.Call.{cheapestAnswer, cheapestBuffer}
 use Rattle.chooser.specs.Cheapest.{cheapestPlan, cheapest}
 use Rattle.order.proofs.Orders.{Ordered}

@@ -12,9 +12,9 @@ use borrow.Author.Tests.{eq-eqb, ne-eqb, eqb-true, eqb-false, ltb-true}
 use lib.IntN.{pos}
 use Rattle.digits.specs.Integer.{up, down, negation}
 use Rattle.sheet.specs.Numeral.{worth, figures, followed}
-use Rattle.reader.specs.Coded.{whole, wholeOf}
+use Rattle.lines.specs.Coded.{whole, wholeOf}
 use Rattle.reader.specs.Limbs.{limb, value, before}
-use Rattle.reader.specs.declared.point.Signed.{Signed}
+use Rattle.lines.specs.declared.point.Signed.{Signed}
 
 -- ── a scalar ────────────────────────────────────────────────────────────────────────────────
 

@@ -3,7 +3,7 @@
 use mathlib.Core.Path.{_≡_, refl, sym, ap, ap₂, subst, _∙_}
 use mathlib.Core.Bool.{Bool, true, false}
 use mathlib.Core.List.{List, [], _∷_}
-use mathlib.Core.Logic.{_≢_}
+use mathlib.Core.Logic.{_≢_, _⊎_, inl, inr}
 use mathlib.Core.Option.{none}
 use Prim.Native.Nat.{ℕ, zero, suc, _+_, _-_, _*_, _/_, _%_, _^_, _≤_, _<_}
 use native.Mathlib.Nat.{mul-le-mul, mul-le-mul-left, pow-suc}
@@ -23,11 +23,12 @@ use Rattle.sheet.specs.Cut.{lines-none}
 use Rattle.sheet.specs.Questions.{sameNumber, plus, held, result, excessFrom, excess}
 use Rattle.reader.specs.Limbs.{limb, limbs, value, room, Low, Zeros}
 use Rattle.reader.specs.Accumulator.{Parts, Plus, Roomy, Is, Holds, Loaded, Doubled, Added}
-use Rattle.reader.specs.Coded.{signed, whole, codedPoint, pointOf}
-use Rattle.reader.specs.State.{leftAfter}
+use Rattle.lines.specs.Coded.{signed, whole, codedPoint, pointOf}
+use Rattle.survey.specs.State.{leftAfter}
 use Rattle.reader.specs.declared.accumulator.Number.{Number}
 use Rattle.reader.specs.declared.accumulator.Accumulator.{Accumulator}
 use Rattle.reader.specs.declared.limbs.Sum.{Sum}
+use Rattle.survey.proofs.Judged.{left-most}
 use Rattle.reader.proofs.LimbTurns.{same-test, zero-value, zero-limb}
 use Rattle.reader.proofs.TextTurns.{byte-before}
 
@@ -187,7 +188,7 @@ whole-signed : (z : ℤ) → whole (signed z) ≡ z
 whole-signed (pos n) = refl
 whole-signed (negsuc n) = refl
 
-pub point-back : (t : Rattle.reader.specs.declared.point.Point.Point) (y : Point) → t ≡ codedPoint y → pointOf t ≡ y
+pub point-back : (t : Rattle.lines.specs.declared.point.Point.Point) (y : Point) → t ≡ codedPoint y → pointOf t ≡ y
 point-back t y e = ap pointOf e ∙ ap₂ point (whole-signed (y .p)) (whole-signed (y .q))
 
 -- the number is k exactly if its parts differ by k
@@ -242,17 +243,6 @@ left-none : (k : ℕ) → leftAfter k [] ≡ k
 unfolding leftAfter
 left-none k = refl
 
-pub left-most : (k : ℕ) (ls : List Line) → leftAfter k ls ≤ k
-unfolding leftAfter
-left-most k [] = omega arith
-left-most k (header h ∷ ls) = left-most k ls
-left-most k (table t ∷ ls) = left-most k ls
-left-most k (load t ∷ ls) = left-most k ls
-left-most k (double ∷ ls) = omega (arith, left-most (k - 1) ls)
-left-most k (add t ∷ ls) = left-most k ls
-left-most k (end ∷ ls) = left-most k ls
-left-most k (misspelled ∷ ls) = left-most k ls
-
 -- the sum r with n in its limb i
 abbrev with : Sum → ℕ → Number → Sum
 with r i n = record { plus = set (r .plus) i (n .plus); minus = set (r .minus) i (n .minus) }
@@ -295,10 +285,6 @@ module _ {sheet : List ℕ} {at : ℕ} {p q : Sum} {a : Accumulator} {places : �
           part = g .part;
         }
 
-    pub held-header : (l : Line) → lines card (drop at sheet) ≡ l ∷ lines card (drop next sheet) → (h : Header) → l ≡ header h → Held sheet next p q a places
-    unfolding held excessFrom leftAfter
-    held-header l e h i = stay (header h) (e ∙ ap (λ (k : Line). k ∷ lines card (drop next sheet)) i) (λ x ls. refl) (λ k n ls. refl) (λ k ls. refl)
-
     pub held-table : (l : Line) → lines card (drop at sheet) ≡ l ∷ lines card (drop next sheet) → (t : Point) → l ≡ table t → Held sheet next p q a places
     unfolding held excessFrom leftAfter
     held-table l e t i = stay (table t) (e ∙ ap (λ (k : Line). k ∷ lines card (drop next sheet)) i) (λ x ls. refl) (λ k n ls. refl) (λ k ls. refl)
@@ -307,9 +293,10 @@ module _ {sheet : List ℕ} {at : ℕ} {p q : Sum} {a : Accumulator} {places : �
     unfolding held excessFrom leftAfter
     held-last l e i = stay end (e ∙ ap (λ (k : Line). k ∷ lines card (drop next sheet)) i) (λ x ls. refl) (λ k n ls. refl) (λ k ls. refl)
 
-    pub held-misspelled : (l : Line) → lines card (drop at sheet) ≡ l ∷ lines card (drop next sheet) → l ≡ misspelled → Held sheet next p q a places
+    pub held-other : (l : Line) → lines card (drop at sheet) ≡ l ∷ lines card (drop next sheet) → ((h : Header) × (l ≡ header h)) ⊎ (l ≡ misspelled) → Held sheet next p q a places
     unfolding held excessFrom leftAfter
-    held-misspelled l e i = stay misspelled (e ∙ ap (λ (k : Line). k ∷ lines card (drop next sheet)) i) (λ x ls. refl) (λ k n ls. refl) (λ k ls. refl)
+    held-other l e (inl (h, i)) = stay (header h) (e ∙ ap (λ (k : Line). k ∷ lines card (drop next sheet)) i) (λ x ls. refl) (λ k n ls. refl) (λ k ls. refl)
+    held-other l e (inr i) = stay misspelled (e ∙ ap (λ (k : Line). k ∷ lines card (drop next sheet)) i) (λ x ls. refl) (λ k n ls. refl) (λ k ls. refl)
 
     pub held-load : (l : Line) → lines card (drop at sheet) ≡ l ∷ lines card (drop next sheet) → (t : Point) → l ≡ load t
         → {u v : Sum} {r : Accumulator} → Empty u → Empty v → Loaded t r → Held sheet next u v r places

@@ -1,47 +1,27 @@
 -- A text grows in front; a decimal is spelled from its last figure. From the definition of a numeral.
 use mathlib.Core.Path.{_≡_, refl, sym, ap, subst, _∙_}
 use mathlib.Core.List.{List, [], _∷_, _++_, append-assoc, append-nil}
-use mathlib.Core.Bool.{Bool, true, false}
 use Prim.Native.Nat.{ℕ, zero, suc, _+_, _/_, _%_, _^_, _≤_, _<_}
 use native.Mathlib.Nat.{pow-suc}
 use native.Mathlib.Omega.{arith}
-use lib.Dec.{ltb}
 use lib.ListN.{length, drop, set}
 use lib.Seq.{set-split, drop-at, length-take-le}
-use borrow.Author.Tests.{lt-ltb, le-ltb, ltb-true, ltb-false}
-use Rattle.sheet.specs.Numeral.{numeralIn, numeral}
+use borrow.Author.Tests.{lt-ltb}
+use Rattle.sheet.specs.Numeral.{figure, numeral}
+use Rattle.sheet.specs.NumeralFigures.{numeral-low, numeral-high}
 use Rattle.reader.specs.Text.{Before}
 use Rattle.reader.specs.declared.text.Text.{Text}
 
 -- ── numerals ────────────────────────────────────────────────────────────────────────────────
 
-low : (f n : ℕ) → n < 10 → numeralIn (suc f) 10 n ≡ (48 + n) ∷ []
-unfolding numeralIn
-low f n h = rw (lt-ltb n 10 h, numeralIn, lt-ltb n 10 h)
-
-high : (f n : ℕ) → 10 ≤ n → numeralIn (suc f) 10 n ≡ numeralIn f 10 (n / 10) ++ ((48 + n % 10) ∷ [])
-unfolding numeralIn
-high f n h = let d : n % 10 < 10 = omega arith in rw (le-ltb n 10 h, numeralIn, lt-ltb (n % 10) 10 d)
-
--- the bound on the figures does not matter
-enough : (f g n : ℕ) → n < f → n < g → numeralIn f 10 n ≡ numeralIn g 10 n
-enough zero g n p q = absurd (omega arith)
-enough (suc f) zero n p q = absurd (omega arith)
-enough (suc f) (suc g) n p q = go (ltb n 10) refl (λ h. enough f g (n / 10) (omega arith) (omega arith))
-  where
-    go : (b : Bool) → ltb n 10 ≡ b → (10 ≤ n → numeralIn f 10 (n / 10) ≡ numeralIn g 10 (n / 10)) → numeralIn (suc f) 10 n ≡ numeralIn (suc g) 10 n
-    go true e r = low f n (ltb-true n 10 e) ∙ sym (low g n (ltb-true n 10 e))
-    go false e r =
-        let h : 10 ≤ n = ltb-false n 10 e in
-        high f n h ∙ ap (λ (l : List ℕ). l ++ ((48 + n % 10) ∷ [])) (r h) ∙ sym (high g n h)
+figure-low : (n : ℕ) → n < 10 → figure n ∷ [] ≡ (48 + n) ∷ []
+figure-low n h = rw (lt-ltb n 10 h)
 
 pub numeral-one : (n : ℕ) → n < 10 → numeral 10 n ≡ (48 + n) ∷ []
-unfolding numeral
-numeral-one n h = low n n h
+numeral-one n h = numeral-low 10 (omega arith) n h ∙ figure-low n h
 
 pub numeral-more : (n : ℕ) → 10 ≤ n → numeral 10 n ≡ numeral 10 (n / 10) ++ ((48 + n % 10) ∷ [])
-unfolding numeral
-numeral-more n h = high n n h ∙ ap (λ (l : List ℕ). l ++ ((48 + n % 10) ∷ [])) (enough n (suc (n / 10)) (n / 10) (omega arith) (omega arith))
+numeral-more n h = numeral-high 10 (omega arith) n h ∙ ap (λ (l : List ℕ). numeral 10 (n / 10) ++ l) (figure-low (n % 10) (omega arith))
 
 -- ── texts ───────────────────────────────────────────────────────────────────────────────────
 

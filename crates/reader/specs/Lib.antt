@@ -1,8 +1,5 @@
--- What the reader's calls answer, and what its fields, lines and state stand for.
-pub mod Coded
-pub mod State
+-- What the reader's calls answer, and what its numbers stand for.
 pub mod Limbs
 pub mod Accumulator
-pub mod Scan
 pub mod Judgement
 pub mod Text

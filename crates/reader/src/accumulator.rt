@@ -1,8 +1,8 @@
 ghost use Prim.Native.Nat.{_*_};
-ghost use Rattle.reader.specs.Coded.{whole, pointOf};
+ghost use Rattle.lines.specs.Coded.{whole, pointOf};
 ghost use Rattle.reader.specs.Accumulator.{Parts, Plus, Roomy, Loaded, Doubled, Added};
-use crate::point::Point;
-use crate::point::Signed;
+use lines::Point;
+use lines::Signed;
 
 // A whole number: what was added to it, and what was taken off it.
 pub struct Number {

@@ -1,15 +1,8 @@
 // The reader: judges any sequence of bytes as a sheet.
 mod accumulator;
-mod fault;
 mod judge;
 mod limbs;
-mod line;
 mod outcome;
-mod point;
-mod scan;
-mod state;
-mod steps;
-mod table;
 mod text;
 
 pub use judge::Judgement;

@@ -1,20 +1,13 @@
 ghost use mathlib.Core.Path.{_≡_};
-ghost use mathlib.Core.List.{List, _∷_};
-ghost use mathlib.Core.Option.{none};
-ghost use Prim.Native.Nat.{_+_, _≤_};
-ghost use lib.ListN.{length};
-ghost use lib.IntN.{pos};
 ghost use Rattle.digits.specs.Limits.{card};
-ghost use Rattle.sheet.specs.Plan.{point};
-ghost use Rattle.sheet.specs.Line as meant;
 ghost use Rattle.sheet.specs.Spelling.{lines};
-ghost use Rattle.sheet.specs.Questions.{samePoint, excess, result};
+ghost use Rattle.sheet.specs.Answer.{heading};
+ghost use Rattle.sheet.specs.Questions.{wrong, unless, result};
+ghost use Rattle.survey.specs.Survey.{Clear};
 ghost use Rattle.reader.specs.Accumulator.{Holds};
-ghost use Rattle.reader.specs.State.{leftAfter};
-ghost use Rattle.reader.specs.Scan.{Heads, headField};
 use crate::accumulator::Accumulator;
 use crate::limbs::Sum;
-use crate::line::Line;
+use lines::Line;
 
 // The places of a limb.
 const PLACES: usize = 16;
@@ -27,8 +20,7 @@ pub struct Outcome {
 
 // What the accumulator holds at the end of a sheet with so many D lines.
 fn result_of(sheet: &[u8], doubles: usize) -> Outcome
-    requires { ⌜ (length (now sheet) ≤ card .sheet) × (excess card (lines card (now sheet)) ≡ none) ⌝ }
-    requires { ⌜ doubles + leftAfter (card .doublings) (lines card (now sheet)) ≡ card .doublings ⌝ }
+    requires { ⌜ Clear (now sheet) doubles ⌝ }
     ensures { λ r. ⌜ Holds r (result (lines card (now (sheet .entry)))) ⌝ }
 {
     let mut p = Sum::zero();
@@ -37,13 +29,10 @@ fn result_of(sheet: &[u8], doubles: usize) -> Outcome
     let mut places = doubles;
     let mut at = 0;
     while at < sheet.len() {
-        let taken = crate::line::line_at(sheet, at);
+        let taken = lines::line_at(sheet, at);
         let line = taken.line;
         at = taken.next;
         match line {
-            Line::Head(_) => {
-                continue;
-            }
             Line::Table(_) => {
                 continue;
             }
@@ -80,7 +69,7 @@ fn result_of(sheet: &[u8], doubles: usize) -> Outcome
             Line::End => {
                 continue;
             }
-            Line::Misspelled => {
+            Line::Other => {
                 continue;
             }
         }
@@ -94,28 +83,16 @@ fn result_of(sheet: &[u8], doubles: usize) -> Outcome
     Outcome { p: p, q: q }
 }
 
-// A field of the header line.
-fn head_field(sheet: &[u8], k: usize) -> &[u8]
-    ensures { λ r. ⌜ now r ≡ headField (now (sheet .entry)) k ⌝ }
-{
-    let end = sheet::fields::find(sheet, crate::line::LINE_FEED);
-    let head = &sheet[..end];
-    sheet::fields::field(head, k)
-}
-
 // Whether the result is kP + lQ, on a sheet with so many D lines.
 pub fn is_right(sheet: &[u8], doubles: usize) -> bool
-    requires { ⌜ (length (now sheet) ≤ card .sheet) × (excess card (lines card (now sheet)) ≡ none) ⌝ }
-    requires { ⌜ doubles + leftAfter (card .doublings) (lines card (now sheet)) ≡ card .doublings ⌝ }
-    requires { ⌜ Heads (lines card (now sheet)) ⌝ }
-    ensures { λ r. ⌜ ((h : meant.Header) → (ls : List meant.Line) → lines card (now (sheet .entry)) ≡ meant.header h ∷ ls
-        → r ≡ samePoint (result (lines card (now (sheet .entry)))) (point (pos (h .k)) (pos (h .l)))) ⌝ }
+    requires { ⌜ Clear (now sheet) doubles ⌝ }
+    ensures { λ r. ⌜ unless r 1 ≡ wrong (heading (lines card (now (sheet .entry)))) (lines card (now (sheet .entry))) ⌝ }
 {
     let outcome = result_of(sheet, doubles);
     let p = outcome.p;
     let q = outcome.q;
-    if p.is(head_field(sheet, 7)) {
-        return q.is(head_field(sheet, 8));
+    if p.is(lines::head_field(sheet, 7)) {
+        return q.is(lines::head_field(sheet, 8));
     }
     false
 }

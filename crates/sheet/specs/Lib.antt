@@ -15,6 +15,7 @@ pub mod SpelledRead
 pub mod ReadSpelled
 pub mod TableCost
 pub mod Every
+pub mod NumeralFigures
 pub mod NumeralRead
 pub mod Cut
 pub mod Placed

@@ -12,6 +12,7 @@ use lib.Dec.{eqb, leb, ltb}
 use lib.ListN.{length, length-append}
 use borrow.Author.Tests.{lt-ltb, le-ltb, le-leb, lt-leb, ne-eqb, ltb-true, ltb-false, leb-true, eqb-false, not-true}
 use Rattle.sheet.specs.Numeral.{figure, worth, numeralIn, numeral, figures, padded, followed, number}
+use Rattle.sheet.specs.NumeralFigures.{in-low, in-high}
 
 -- a figure is read as itself
 worth-low : (d : ℕ) → d < 10 → worth (48 + d) ≡ d
@@ -88,14 +89,6 @@ followed-snoc base n [] c = refl
 followed-snoc base n (x ∷ s) c = followed-snoc base (n * base + worth x) s c
 
 module _ (base : ℕ) (low : 2 ≤ base) (high : base ≤ 16) where
-  numeral-low : (f n : ℕ) → n < base → numeralIn (suc f) base n ≡ figure n ∷ []
-  unfolding numeralIn
-  numeral-low f n h = rw (lt-ltb n base h, numeralIn)
-
-  numeral-high : (f n : ℕ) → base ≤ n → numeralIn (suc f) base n ≡ numeralIn f base (n / base) ++ (figure (n % base) ∷ [])
-  unfolding numeralIn
-  numeral-high f n h = rw (le-ltb n base h, numeralIn)
-
   -- s spells n: one figure, or those of a number that is not 0 and one more
   data Spells : ℕ → List ℕ → Type 0 where
     one : {d : ℕ} → d < base → Spells d (figure d ∷ [])
@@ -106,11 +99,11 @@ module _ (base : ℕ) (low : 2 ≤ base) (high : base ≤ 16) where
   spells-in (suc f) n h = go (ltb n base) refl (λ l. spells-in f (n / base) l)
     where
       go : (b : Bool) → ltb n base ≡ b → (n / base < f → Spells (n / base) (numeralIn f base (n / base))) → Spells n (numeralIn (suc f) base n)
-      go true e r = rw (numeral-low f n (ltb-true n base e)) (one (ltb-true n base e))
+      go true e r = rw (in-low base low f n (ltb-true n base e)) (one (ltb-true n base e))
       go false e r =
           let m : base ≤ n = ltb-false n base e in
           let d : n / base < n = div-lt-self (omega arith) (omega arith) in
-          rw (numeral-high f n m)
+          rw (in-high base low f n m)
           (more (le-div-iff-mul-le {k = base} {x = 1} {y = n} (omega arith) .1 (omega arith)) (mod-lt n (omega arith)) (sym (div-add-mod' n base)) (r (omega arith)))
 
   spells : (n : ℕ) → Spells n (numeral base n)

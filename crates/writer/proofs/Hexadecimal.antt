@@ -15,7 +15,7 @@ use Rattle.digits.specs.Scalar.{little, scalar}
 use Rattle.sheet.specs.Numeral.{figure, numeral}
 use Rattle.sheet.specs.NumeralRead.{numeral-some}
 use Rattle.writer.specs.Parts.{Put, Room, figuresOf, byteFigures}
-use Rattle.writer.proofs.Numerals.{numeral-low, numeral-high}
+use Rattle.sheet.specs.NumeralFigures.{numeral-low, numeral-high}
 use Rattle.writer.proofs.Puts.{put-none, put-append, put-same, room-second}
 
 -- one more byte

@@ -1,6 +1,5 @@
 -- The laws that the proofs of the functions cite.
 pub mod Puts
-pub mod Numerals
 pub mod Signs
 pub mod Hexadecimal
 pub mod StepBytes

@@ -6,8 +6,8 @@ use Prim.Native.Nat.{_≤_, _-_}
 use lib.ListN.{length}
 use Rattle.sheet.specs.Plan.{Point}
 use Rattle.reader.specs.Accumulator.{Loaded, Added}
-use Rattle.reader.proofs.Was.{was-header, was-table, was-load, was-double, was-add, was-end, was-misspelled}
-use Rattle.reader.proofs.ResultTurns.{Held, roomy, point-back, some-place, held-start, held-end, held-header, held-table, held-last, held-misspelled, held-load, held-add, held-double, held-store}
+use Rattle.lines.proofs.Was.{was}
+use Rattle.reader.proofs.ResultTurns.{Held, roomy, point-back, some-place, held-start, held-end, held-table, held-last, held-other, held-load, held-add, held-double, held-store}
 use Rattle.reader.proofs.outcome.result_of.Statement.{statement}
 use Rattle.reader.proofs.outcome.result_of.Tie as tie
 
@@ -18,10 +18,10 @@ abbrev μ-loop : tie.MeasureT-loop
 μ-loop sheet doubles p₀ q₀ accumulator₀ places₀ at₀ p q accumulator places at = length sheet - at
 
 -- at a D line
-to-come : (c : tie.After-enum-told3 Inv-loop μ-loop) → (1 ≤ c .before .before .before .before .loop .places) × (c .before .before .before .before .loop .places ≤ 528)
+to-come : (c : tie.After-enum-told2 Inv-loop μ-loop) → (1 ≤ c .before .before .before .before .loop .places) × (c .before .before .before .before .loop .places ≤ 528)
 to-come c =
-    let t = c .before .before .line-at .ensures in
-    some-place (c .before .before .before .before .loop .inv .1) (t .later) (t .meant) (t .rest) (was-double (t .meant) (sym (t .is) ∙ c .enum-told3 .given .1))
+    let t = c .before .before .line-at .ensures .0 (omega arith) in
+    some-place (c .before .before .before .before .loop .inv .1) (t .later) (t .meant) (t .rest) (was (t .meant) (sym (t .is) ∙ c .enum-told2 .given .1))
 
 zero-requires : tie.Need-zero-requires Inv-loop μ-loop
 zero-requires c κs = search needs
@@ -35,7 +35,7 @@ empty-requires c κs = search needs
 loop-holds : tie.Need-loop-holds Inv-loop μ-loop
 loop-holds c =
     let s = c .before .before .before .before in
-    (omega arith, held-start (s .args .sheet .now) (c .before .before .zero .result) (c .before .zero2 .result) (c .empty .result) (s .args .doubles) (s .pre .0 .1) (s .pre .1) (c .before .before .zero .ensures) (c .before .zero2 .ensures) (c .empty .ensures))
+    (omega arith, held-start (s .args .sheet .now) (c .before .before .zero .result) (c .before .zero2 .result) (c .empty .result) (s .args .doubles) (s .pre .left .sized) (s .pre .left .doubles) (c .before .before .zero .ensures) (c .before .zero2 .ensures) (c .empty .ensures))
 
 line-at-requires : tie.Need-line-at-requires Inv-loop μ-loop
 line-at-requires c κs = search needs
@@ -44,26 +44,13 @@ enum-told : tie.Need-enum-told Inv-loop μ-loop
 enum-told c = search needs
 
 loop-less : tie.Need-loop-less Inv-loop μ-loop
-loop-less c = omega (arith, c .before .before .line-at .ensures .later, c .before .before .line-at .ensures .within)
+loop-less c = omega (arith, c .before .before .line-at .ensures .0 (omega arith) .later, c .before .before .line-at .ensures .0 (omega arith) .within)
 
 loop-again : tie.Need-loop-again Inv-loop μ-loop
 loop-again c =
-    let t = c .before .before .line-at .ensures in
+    let t = c .before .before .line-at .ensures .0 (omega arith) in
     let g = c .before .before .before .before .loop .inv .1 in
-    let w = was-header (t .meant) _ (sym (t .is) ∙ c .enum-told .given .1) in
-    (t .within, held-header g (t .later) (t .meant) (t .rest) (w .0) (w .1))
-
-enum-told-2 : tie.Need-enum-told-2 Inv-loop μ-loop
-enum-told-2 c = search needs
-
-loop-less-2 : tie.Need-loop-less-2 Inv-loop μ-loop
-loop-less-2 c = omega (arith, c .before .before .line-at .ensures .later, c .before .before .line-at .ensures .within)
-
-loop-again-2 : tie.Need-loop-again-2 Inv-loop μ-loop
-loop-again-2 c =
-    let t = c .before .before .line-at .ensures in
-    let g = c .before .before .before .before .loop .inv .1 in
-    let w = was-table (t .meant) _ (sym (t .is) ∙ c .enum-told2 .given .1) in
+    let w = was (t .meant) (sym (t .is) ∙ c .enum-told .given .1) in
     (t .within, held-table g (t .later) (t .meant) (t .rest) (w .0) (w .1))
 
 enum-known-line : tie.Need-enum-known-line Inv-loop μ-loop
@@ -78,18 +65,18 @@ zero-requires-4 c κs = search needs
 loaded-requires : tie.Need-loaded-requires Inv-loop μ-loop
 loaded-requires c κs = search needs
 
-loop-less-3 : tie.Need-loop-less-3 Inv-loop μ-loop
-loop-less-3 c = omega (arith, c .before .before .before .before .before .before .line-at .ensures .later, c .before .before .before .before .before .before .line-at .ensures .within)
+loop-less-2 : tie.Need-loop-less-2 Inv-loop μ-loop
+loop-less-2 c = omega (arith, c .before .before .before .before .before .before .line-at .ensures .0 (omega arith) .later, c .before .before .before .before .before .before .line-at .ensures .0 (omega arith) .within)
 
-loop-again-3 : tie.Need-loop-again-3 Inv-loop μ-loop
-loop-again-3 c =
-    let t = c .before .before .before .before .before .before .line-at .ensures in
+loop-again-2 : tie.Need-loop-again-2 Inv-loop μ-loop
+loop-again-2 c =
+    let t = c .before .before .before .before .before .before .line-at .ensures .0 (omega arith) in
     let g = c .before .before .before .before .before .before .before .before .loop .inv .1 in
-    let w = was-load (t .meant) _ (sym (t .is) ∙ c .before .before .before .before .line .given .1) in
+    let w = was (t .meant) (sym (t .is) ∙ c .before .before .before .before .line .given .1) in
     (t .within, held-load g (t .later) (t .meant) (t .rest) (w .0) (w .1) (c .before .before .zero3 .ensures) (c .before .zero4 .ensures) (subst (λ (y : Point). Loaded y (c .loaded .result)) (point-back _ (w .0) (w .2)) (c .loaded .ensures)))
 
-enum-told-3 : tie.Need-enum-told-3 Inv-loop μ-loop
-enum-told-3 c = search needs
+enum-told-2 : tie.Need-enum-told-2 Inv-loop μ-loop
+enum-told-2 c = search needs
 
 mul-p : tie.Need-mul-p Inv-loop μ-loop
 mul-p c = omega (arith, to-come (c .before .before .before))
@@ -121,71 +108,71 @@ sub-places c = omega (arith, to-come (c .before .before .before))
 empty-requires-2 : tie.Need-empty-requires-2 Inv-loop μ-loop
 empty-requires-2 c κs = search needs
 
-loop-less-4 : tie.Need-loop-less-4 Inv-loop μ-loop
-loop-less-4 c = omega (arith, c .before .before .before .before .before .before .line-at .ensures .later, c .before .before .before .before .before .before .line-at .ensures .within)
+loop-less-3 : tie.Need-loop-less-3 Inv-loop μ-loop
+loop-less-3 c = omega (arith, c .before .before .before .before .before .before .line-at .ensures .0 (omega arith) .later, c .before .before .before .before .before .before .line-at .ensures .0 (omega arith) .within)
 
-loop-again-4 : tie.Need-loop-again-4 Inv-loop μ-loop
-loop-again-4 c =
-    let t = c .before .before .before .before .before .before .line-at .ensures in
+loop-again-3 : tie.Need-loop-again-3 Inv-loop μ-loop
+loop-again-3 c =
+    let t = c .before .before .before .before .before .before .line-at .ensures .0 (omega arith) in
     let g = c .before .before .before .before .before .before .before .before .loop .inv .1 in
-    let w = was-double (t .meant) (sym (t .is) ∙ c .before .before .before .before .enum-told3 .given .1) in
-    (t .within, held-store g (t .later) (t .meant) (t .rest) w (c .before .before .before .if1 .taken) (omega (arith, c .before .before .before .before .before .before .before .before .before .before .before .before .before .pre .0 .0, c .before .before .before .before .before .before .before .before .loop .inv .0)) (c .empty2 .ensures))
+    let w = was (t .meant) (sym (t .is) ∙ c .before .before .before .before .enum-told2 .given .1) in
+    (t .within, held-store g (t .later) (t .meant) (t .rest) w (c .before .before .before .if1 .taken) (omega (arith, c .before .before .before .before .before .before .before .before .before .before .before .before .before .pre .short, c .before .before .before .before .before .before .before .before .loop .inv .0)) (c .empty2 .ensures))
 
 sub-places-2 : tie.Need-sub-places-2 Inv-loop μ-loop
 sub-places-2 c = omega (arith, to-come (c .before))
 
 doubled-requires : tie.Need-doubled-requires Inv-loop μ-loop
-doubled-requires c κs = roomy (c .before .before .before .before .before .loop .inv .1) (omega (arith, c .before .before .before .before .before .before .before .before .before .before .pre .0 .0, c .before .before .before .before .before .loop .inv .0))
+doubled-requires c κs = roomy (c .before .before .before .before .before .loop .inv .1) (omega (arith, c .before .before .before .before .before .before .before .before .before .before .pre .short, c .before .before .before .before .before .loop .inv .0))
 
-loop-less-5 : tie.Need-loop-less-5 Inv-loop μ-loop
-loop-less-5 c = omega (arith, c .before .before .before .before .line-at .ensures .later, c .before .before .before .before .line-at .ensures .within)
+loop-less-4 : tie.Need-loop-less-4 Inv-loop μ-loop
+loop-less-4 c = omega (arith, c .before .before .before .before .line-at .ensures .0 (omega arith) .later, c .before .before .before .before .line-at .ensures .0 (omega arith) .within)
 
-loop-again-5 : tie.Need-loop-again-5 Inv-loop μ-loop
-loop-again-5 c =
-    let t = c .before .before .before .before .line-at .ensures in
+loop-again-4 : tie.Need-loop-again-4 Inv-loop μ-loop
+loop-again-4 c =
+    let t = c .before .before .before .before .line-at .ensures .0 (omega arith) in
     let g = c .before .before .before .before .before .before .loop .inv .1 in
-    let w = was-double (t .meant) (sym (t .is) ∙ c .before .before .enum-told3 .given .1) in
+    let w = was (t .meant) (sym (t .is) ∙ c .before .before .enum-told2 .given .1) in
     (t .within, held-double g (t .later) (t .meant) (t .rest) w (c .before .if1 .left) (c .doubled .ensures))
 
 enum-known-line-2 : tie.Need-enum-known-line-2 Inv-loop μ-loop
 enum-known-line-2 c = search needs
 
 added-requires : tie.Need-added-requires Inv-loop μ-loop
-added-requires c κs = roomy (c .before .before .before .before .before .loop .inv .1) (omega (arith, c .before .before .before .before .before .before .before .before .before .before .pre .0 .0, c .before .before .before .before .before .loop .inv .0))
+added-requires c κs = roomy (c .before .before .before .before .before .loop .inv .1) (omega (arith, c .before .before .before .before .before .before .before .before .before .before .pre .short, c .before .before .before .before .before .loop .inv .0))
+
+loop-less-5 : tie.Need-loop-less-5 Inv-loop μ-loop
+loop-less-5 c = omega (arith, c .before .before .before .before .line-at .ensures .0 (omega arith) .later, c .before .before .before .before .line-at .ensures .0 (omega arith) .within)
+
+loop-again-5 : tie.Need-loop-again-5 Inv-loop μ-loop
+loop-again-5 c =
+    let t = c .before .before .before .before .line-at .ensures .0 (omega arith) in
+    let g = c .before .before .before .before .before .before .loop .inv .1 in
+    let w = was (t .meant) (sym (t .is) ∙ c .before .before .line2 .given .1) in
+    (t .within, held-add g (t .later) (t .meant) (t .rest) (w .0) (w .1) (subst (λ (y : Point). Added (c .before .before .before .before .before .before .loop .accumulator) y (c .added .result)) (point-back _ (w .0) (w .2)) (c .added .ensures)))
+
+enum-told-3 : tie.Need-enum-told-3 Inv-loop μ-loop
+enum-told-3 c = search needs
 
 loop-less-6 : tie.Need-loop-less-6 Inv-loop μ-loop
-loop-less-6 c = omega (arith, c .before .before .before .before .line-at .ensures .later, c .before .before .before .before .line-at .ensures .within)
+loop-less-6 c = omega (arith, c .before .before .line-at .ensures .0 (omega arith) .later, c .before .before .line-at .ensures .0 (omega arith) .within)
 
 loop-again-6 : tie.Need-loop-again-6 Inv-loop μ-loop
 loop-again-6 c =
-    let t = c .before .before .before .before .line-at .ensures in
-    let g = c .before .before .before .before .before .before .loop .inv .1 in
-    let w = was-add (t .meant) _ (sym (t .is) ∙ c .before .before .line2 .given .1) in
-    (t .within, held-add g (t .later) (t .meant) (t .rest) (w .0) (w .1) (subst (λ (y : Point). Added (c .before .before .before .before .before .before .loop .accumulator) y (c .added .result)) (point-back _ (w .0) (w .2)) (c .added .ensures)))
+    let t = c .before .before .line-at .ensures .0 (omega arith) in
+    let g = c .before .before .before .before .loop .inv .1 in
+    (t .within, held-last g (t .later) (t .meant) (t .rest) (was (t .meant) (sym (t .is) ∙ c .enum-told3 .given .1)))
 
 enum-told-4 : tie.Need-enum-told-4 Inv-loop μ-loop
 enum-told-4 c = search needs
 
 loop-less-7 : tie.Need-loop-less-7 Inv-loop μ-loop
-loop-less-7 c = omega (arith, c .before .before .line-at .ensures .later, c .before .before .line-at .ensures .within)
+loop-less-7 c = omega (arith, c .before .before .line-at .ensures .0 (omega arith) .later, c .before .before .line-at .ensures .0 (omega arith) .within)
 
 loop-again-7 : tie.Need-loop-again-7 Inv-loop μ-loop
 loop-again-7 c =
-    let t = c .before .before .line-at .ensures in
+    let t = c .before .before .line-at .ensures .0 (omega arith) in
     let g = c .before .before .before .before .loop .inv .1 in
-    (t .within, held-last g (t .later) (t .meant) (t .rest) (was-end (t .meant) (sym (t .is) ∙ c .enum-told4 .given .1)))
-
-enum-told-5 : tie.Need-enum-told-5 Inv-loop μ-loop
-enum-told-5 c = search needs
-
-loop-less-8 : tie.Need-loop-less-8 Inv-loop μ-loop
-loop-less-8 c = omega (arith, c .before .before .line-at .ensures .later, c .before .before .line-at .ensures .within)
-
-loop-again-8 : tie.Need-loop-again-8 Inv-loop μ-loop
-loop-again-8 c =
-    let t = c .before .before .line-at .ensures in
-    let g = c .before .before .before .before .loop .inv .1 in
-    (t .within, held-misspelled g (t .later) (t .meant) (t .rest) (was-misspelled (t .meant) (sym (t .is) ∙ c .enum-told5 .given .1)))
+    (t .within, held-other g (t .later) (t .meant) (t .rest) (was (t .meant) (sym (t .is) ∙ c .enum-told4 .given .1)))
 
 element-write-p-3 : tie.Need-element-write-p-3 Inv-loop μ-loop
 element-write-p-3 c = search needs
@@ -202,7 +189,7 @@ element-write-q-4 c = search needs
 returns : tie.Need-returns Inv-loop μ-loop
 returns c =
     let l = c .before .before .before .loop in
-    held-end (l .inv .1) (omega arith) (omega (arith, c .before .before .before .before .before .before .before .before .pre .0 .0, l .inv .0))
+    held-end (l .inv .1) (omega arith) (omega (arith, c .before .before .before .before .before .before .before .before .pre .short, l .inv .0))
 
 pub result-of-spec : {M : Type 1} → statement M
 result-of-spec =
@@ -218,16 +205,13 @@ result-of-spec =
     enum-told
     loop-less
     loop-again
-    enum-told-2
-    loop-less-2
-    loop-again-2
     enum-known-line
     zero-requires-3
     zero-requires-4
     loaded-requires
-    loop-less-3
-    loop-again-3
-    enum-told-3
+    loop-less-2
+    loop-again-2
+    enum-told-2
     mul-p
     element-write-p
     mul-p-2
@@ -238,22 +222,22 @@ result-of-spec =
     element-write-q-2
     sub-places
     empty-requires-2
-    loop-less-4
-    loop-again-4
+    loop-less-3
+    loop-again-3
     sub-places-2
     doubled-requires
-    loop-less-5
-    loop-again-5
+    loop-less-4
+    loop-again-4
     enum-known-line-2
     added-requires
+    loop-less-5
+    loop-again-5
+    enum-told-3
     loop-less-6
     loop-again-6
     enum-told-4
     loop-less-7
     loop-again-7
-    enum-told-5
-    loop-less-8
-    loop-again-8
     element-write-p-3
     element-write-p-4
     element-write-q-3

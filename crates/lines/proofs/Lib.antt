@@ -1,0 +1,5 @@
+-- Laws that the functions' proofs cite.
+pub mod PointRead
+pub mod HeaderRead
+pub mod LineRead
+pub mod Was

@@ -1,0 +1,2 @@
+-- What the numbers, points, headers and lines of the code stand for.
+pub mod Coded

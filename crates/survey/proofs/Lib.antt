@@ -1,0 +1,6 @@
+-- Laws that the functions' proofs cite.
+pub mod TableRead
+pub mod Taken
+pub mod StateTurns
+pub mod ScanTurns
+pub mod Judged

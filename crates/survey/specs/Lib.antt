@@ -1,0 +1,4 @@
+-- What the first pass answers, and what its state stands for.
+pub mod State
+pub mod Scan
+pub mod Survey
