@@ -5,6 +5,7 @@ pub mod big;
 pub mod calls;
 pub mod cheapest;
 pub mod damage;
+pub mod edges;
 pub mod foreign;
 pub mod joint;
 pub mod least;

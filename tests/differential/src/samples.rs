@@ -1,4 +1,5 @@
-//! The samples that the scope document prints, each as a call and the answer it names.
+//! The samples that the scope document and the source documents print, each as a call and the
+//! answer it names.
 
 use crate::calls::{Answer, Call};
 
@@ -35,6 +36,8 @@ pub fn all() -> Vec<(Call, Says)> {
     samples.extend(joint_forms());
     samples.extend(bounds());
     samples.extend(orders());
+    samples.extend(printed_rows());
+    samples.extend(printed_joint_forms());
     samples
 }
 
@@ -88,6 +91,37 @@ fn orders() -> Vec<(Call, Says)> {
         (cheapest(3, 0, 1, 16_384), Says::Header("S,I,1,1,0,1,2,3,0")),
         (cheapest(7, 2, 0, 16_384), Says::Whole(seven_and_two)),
     ]
+}
+
+/// The finished width-w rows that source documents 002, chapter 5, and 003 print, as there with
+/// the top digit first. Width w is window 2^(w−1) − 1.
+fn printed_rows() -> Vec<(Call, Says)> {
+    let sample = |scalar: &[u8], m, printed: &[i8]| {
+        (row(scalar.to_vec(), m), Says::Whole(Answer::Row(from_place_0(printed))))
+    };
+    vec![
+        // 002: example 5.5, w = 3; example 5.10, the last line, which is non-adjacent.
+        sample(&619_u16.to_be_bytes(), 3, &[1, 0, 0, -3, 0, 0, 0, -3, 0, 0, 3]),
+        sample(&731_u16.to_be_bytes(), 1, &[1, 0, -1, 0, 0, -1, 0, 0, -1, 0, -1]),
+        // 003: example 4.2; example 4.3, w = 3 and w = 4; example 4.4, w = 4.
+        sample(&[53], 1, &[1, 0, -1, 0, 1, 0, 1]),
+        sample(&[53], 3, &[1, 0, 0, -1, 0, 0, -3]),
+        sample(&[53], 7, &[3, 0, 0, 0, 5]),
+        sample(&[42], 7, &[1, 0, 0, 0, 5, 0]),
+    ]
+}
+
+/// The finished joint form of two scalars that source document 003 prints in example 4.7, as there
+/// with the top column first.
+fn printed_joint_forms() -> Vec<(Call, Says)> {
+    let call = Call::Joint { k: vec![53], l: vec![42], k_places: 9, l_places: 9 };
+    let k_row = from_place_0(&[1, 0, 0, -1, 0, -1, -1]);
+    let l_row = from_place_0(&[0, 1, 0, 1, 0, 1, 0]);
+    vec![(call, Says::Whole(Answer::Columns(k_row, l_row)))]
+}
+
+fn from_place_0(printed: &[i8]) -> Vec<i8> {
+    printed.iter().rev().copied().collect()
 }
 
 fn row(scalar: Vec<u8>, m: u32) -> Call {

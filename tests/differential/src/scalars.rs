@@ -123,16 +123,29 @@ pub fn around_powers_of_two() -> Vec<Vec<u8>> {
         flip(&mut power, place);
         let mut above = power.clone();
         above[place / 8] |= 1;
-        scalars.extend([ones(place), power, above]);
+        scalars.extend([ones(0, place), power, above]);
     }
     scalars
 }
 
-/// 2^count − 1 in the fewest bytes.
-fn ones(count: usize) -> Vec<u8> {
-    let mut scalar = vec![0; count.div_ceil(8).max(1)];
-    (0..count).for_each(|place| flip(&mut scalar, place));
+/// Ones from one place to below another, in the fewest bytes.
+pub fn ones(from: usize, to: usize) -> Vec<u8> {
+    let mut scalar = vec![0; to.div_ceil(8).max(1)];
+    (from..to).for_each(|place| flip(&mut scalar, place));
     scalar
+}
+
+/// All ones, or every second bit, below a place: in the fewest bytes, and in 66.
+pub fn patterned() -> Vec<Vec<u8>> {
+    let all_ones = [0, 1, 2, 3, 8, 31, 32, 33, 64, 256, 528].map(|places| (255, places));
+    let every_second = [(85, 256), (170, 256), (85, 527), (170, 528)];
+    let mut scalars = Vec::new();
+    for (pattern, places) in all_ones.into_iter().chain(every_second) {
+        let fewest: Vec<u8> = ones(0, places).iter().map(|byte| byte & pattern).collect();
+        let most = [vec![0; MOST_BYTES - fewest.len()], fewest.clone()].concat();
+        scalars.extend([fewest, most]);
+    }
+    scalars
 }
 
 /// A small scalar in one byte.
@@ -167,6 +180,18 @@ mod tests {
             let above = if place == 0 { 0 } else { 1 };
             assert_eq!(value(&three[1]).plus(above), value(&three[2]));
         }
+    }
+
+    #[test]
+    fn patterns() {
+        let scalars = patterned();
+        assert_eq!(scalars.len(), 30);
+        for two in scalars.chunks(2) {
+            assert_eq!(value(&two[0]), value(&two[1]));
+            assert_eq!(two[1].len(), MOST_BYTES);
+        }
+        assert_eq!(scalars[10], [0x7f, 255, 255, 255]);
+        assert_eq!(scalars[22], [0x55; 32]);
     }
 
     #[test]

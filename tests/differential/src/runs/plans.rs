@@ -15,6 +15,7 @@ pub fn run(judge: &mut Judge, random: &mut Random) {
             compare_and_read(judge, &call(plan, &k, &l, ROOM));
         }
     }
+    patterned_pairs(judge);
     refused_lengths(judge, random);
     refused_windows(judge, random);
     rooms(judge, random);
@@ -31,6 +32,20 @@ fn pairs(random: &mut Random) -> Vec<(Vec<u8>, Vec<u8>)> {
     ];
     pairs.extend((0..RANDOM_PAIRS).map(|_| scalars::random_pair(random)));
     pairs
+}
+
+/// Every two patterned scalars in some plans.
+fn patterned_pairs(judge: &mut Judge) {
+    let windows = [(1, 1), (3, 1), (1, 3), (5, 7), (7, 31), (31, 1), (31, 31)];
+    let interleaved = windows.map(|(m1, m2)| Plan::Interleaved { m1, m2 });
+    let scalars = scalars::patterned();
+    for k in &scalars {
+        for l in &scalars {
+            for plan in interleaved.into_iter().chain([Plan::Joint]) {
+                compare_and_read(judge, &call(plan, k, l, ROOM));
+            }
+        }
+    }
 }
 
 fn call(plan: Plan, k: &[u8], l: &[u8], room: usize) -> Call {

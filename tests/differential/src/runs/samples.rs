@@ -1,6 +1,7 @@
-//! The samples of the scope document.
+//! The samples of the documents, and the calls at the edges.
 
 use crate::judge::Judge;
+use reference::edges;
 use reference::samples::{self, Says};
 
 pub fn run(judge: &mut Judge) {
@@ -12,5 +13,8 @@ pub fn run(judge: &mut Judge) {
             assert!(says.holds_of(&answer), "the reference fails a sample: {call}");
             judge.compare_with(&call, &answer);
         }
+    }
+    for (call, answer) in edges::all() {
+        judge.compare_with(&call, &answer);
     }
 }

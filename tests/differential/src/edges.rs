@@ -1,0 +1,164 @@
+//! Calls at the edges, each with the answer that the scope document asks for: leading zeros and the
+//! longest scalars, runs of ones, and the questions, each missed by itself and then with others
+//! that come after it.
+
+use crate::calls::{Answer, Call};
+use crate::samples::SEVEN_AND_TWO;
+use crate::scalars;
+
+pub fn all() -> Vec<(Call, Answer)> {
+    let mut edges = rows();
+    edges.extend(joint_forms());
+    edges.extend(runs_of_ones());
+    edges.extend(row_refusals());
+    edges.extend(joint_refusals());
+    edges.extend(plan_refusals());
+    edges.extend(cheapest_sheets());
+    edges.extend(reads());
+    edges
+}
+
+fn rows() -> Vec<(Call, Answer)> {
+    let carried = sparse(529, &[(0, -1), (528, 1)]);
+    vec![
+        (row(&[9], 31, 9), Answer::Row(vec![9])),
+        (row(&[0, 0, 9], 7, 25), Answer::Row(vec![-7, 0, 0, 0, 1])),
+        (row(&[255; 66], 1, 529), Answer::Row(carried.clone())),
+        (row(&[255; 66], 31, 600), Answer::Row(carried)),
+    ]
+}
+
+fn joint_forms() -> Vec<(Call, Answer)> {
+    let carried = sparse(529, &[(0, -1), (528, 1)]);
+    let thirteen_and_ten = Answer::Columns(vec![-1, -1, 0, 0, 1], vec![0, 1, 0, 1, 0]);
+    vec![
+        (joint(&[0], &[0], 9, 9), Answer::Columns(vec![], vec![])),
+        (joint(&[13], &[0, 0, 10], 25, 25), thirteen_and_ten),
+        (
+            joint(&[2], &[255; 66], 529, 529),
+            Answer::Columns(sparse(529, &[(1, 1)]), carried.clone()),
+        ),
+        (joint(&[255; 66], &[255; 66], 529, 600), Answer::Columns(carried.clone(), carried)),
+    ]
+}
+
+/// Runs of ones, some over the borders of 32-bit and 64-bit words: as a row for the smallest and
+/// the largest window, and jointly with 1.
+fn runs_of_ones() -> Vec<(Call, Answer)> {
+    let runs =
+        [(0, 32), (0, 64), (0, 65), (28, 36), (60, 68), (5, 101), (0, 255), (0, 256), (0, 528)];
+    let mut edges = Vec::new();
+    for (from, to) in runs {
+        let scalar = scalars::ones(from, to);
+        let digits = sparse(to + 1, &[(from, -1), (to, 1)]);
+        let one = sparse(to + 1, &[(0, 1)]);
+        edges.extend([
+            (row(&scalar, 1, 529), Answer::Row(digits.clone())),
+            (row(&scalar, 31, 529), Answer::Row(digits.clone())),
+            (joint(&scalar, &[1], 529, 529), Answer::Columns(digits, one)),
+        ]);
+    }
+    edges
+}
+
+fn row_refusals() -> Vec<(Call, Answer)> {
+    vec![
+        (row(&[255; 67], 1, 537), refused(1)),
+        (row(&[], 1, 9), refused(1)),
+        (row(&[9], 0, 9), refused(2)),
+        (row(&[9], 4, 9), refused(2)),
+        (row(&[9], 33, 9), refused(2)),
+        (row(&[9], 257, 9), refused(2)),
+        (row(&[9], 7, 8), refused(3)),
+        (row(&[255; 66], 1, 528), refused(3)),
+        (row(&[], 4, 0), refused(1)),
+        (row(&[9], 4, 8), refused(2)),
+    ]
+}
+
+fn joint_refusals() -> Vec<(Call, Answer)> {
+    vec![
+        (joint(&[255; 67], &[10], 537, 537), refused(1)),
+        (joint(&[13], &[255; 67], 537, 537), refused(1)),
+        (joint(&[], &[10], 9, 9), refused(1)),
+        (joint(&[13], &[], 9, 9), refused(1)),
+        (joint(&[13], &[], 8, 8), refused(1)),
+        (joint(&[13], &[10], 8, 9), refused(3)),
+        (joint(&[13], &[10], 9, 8), refused(3)),
+        (joint(&[13], &[0, 10], 16, 17), refused(3)),
+        (joint(&[0, 13], &[10], 17, 16), refused(3)),
+    ]
+}
+
+fn plan_refusals() -> Vec<(Call, Answer)> {
+    vec![
+        (plan_j(0, 66, 16_384), refused(1)),
+        (plan_i(66, 0, 1, 1, 16_384), refused(1)),
+        (plan_j(67, 66, 16_384), refused(1)),
+        (plan_i(66, 67, 2, 1, 16_383), refused(1)),
+        (plan_i(66, 66, 2, 1, 16_384), refused(2)),
+        (plan_i(66, 66, 1, 0, 16_384), refused(2)),
+        (plan_i(66, 66, 1, 33, 16_383), refused(2)),
+        (plan_i(66, 66, 257, 1, 16_384), refused(2)),
+        (plan_i(66, 66, 31, 31, 16_383), refused(3)),
+        (plan_j(66, 66, 16_383), refused(3)),
+    ]
+}
+
+fn cheapest_sheets() -> Vec<(Call, Answer)> {
+    let cheapest = |limit, room| Call::Cheapest { k: vec![7], l: vec![2], limit, room };
+    vec![
+        (cheapest(30, 16_384), Answer::Sheet(SEVEN_AND_TWO.as_bytes().to_vec())),
+        (cheapest(31, 16_384), refused(4)),
+        (cheapest(30, 16_383), refused(3)),
+        (cheapest(31, 16_383), refused(4)),
+    ]
+}
+
+fn reads() -> Vec<(Call, Answer)> {
+    vec![
+        (Call::Read { sheet: vec![b'E'; 16_384] }, Answer::refused(6, 1)),
+        (Call::Read { sheet: vec![b'E'; 16_385] }, Answer::refused(5, 0)),
+    ]
+}
+
+/// A row of so many places that holds these digits and else 0.
+fn sparse(places: usize, digits: &[(usize, i8)]) -> Vec<i8> {
+    let mut row = vec![0; places];
+    digits.iter().for_each(|&(place, digit)| row[place] = digit);
+    row
+}
+
+fn refused(number: u32) -> Answer {
+    Answer::refused(number, 0)
+}
+
+fn row(scalar: &[u8], m: u32, places: usize) -> Call {
+    Call::Row { scalar: scalar.to_vec(), m, places }
+}
+
+fn joint(k: &[u8], l: &[u8], k_places: usize, l_places: usize) -> Call {
+    Call::Joint { k: k.to_vec(), l: l.to_vec(), k_places, l_places }
+}
+
+/// Plan J of two scalars in so many bytes.
+fn plan_j(k_bytes: usize, l_bytes: usize, room: usize) -> Call {
+    Call::PlanJ { k: vec![7; k_bytes], l: vec![7; l_bytes], room }
+}
+
+/// Plan I of two scalars in so many bytes.
+fn plan_i(k_bytes: usize, l_bytes: usize, m1: u32, m2: u32, room: usize) -> Call {
+    Call::PlanI { k: vec![7; k_bytes], l: vec![7; l_bytes], m1, m2, room }
+}
+
+#[cfg(test)]
+mod tests {
+    use super::*;
+
+    #[test]
+    fn the_reference_agrees_at_every_edge() {
+        for (call, answer) in all() {
+            assert_eq!(call.answer(), answer, "{call}");
+        }
+    }
+}
