@@ -16,12 +16,12 @@ use Rattle.digits.specs.Two as Two
 use Rattle.digits.specs.Two.{Column, P, Q, two}
 use Rattle.digits.specs.Limits.{card}
 use Rattle.digits.specs.Scalar.{scalar}
+use Rattle.forms.specs.Joint.{joint}
+use Rattle.forms.specs.JointValue.{joint-small}
+use Rattle.forms.specs.Promise.{row-digits}
+use Rattle.forms.specs.Row.{row}
 use Rattle.recode.specs.Call.{filled, rowBuffer, jointBuffer}
-use Rattle.recode.specs.Joint.{joint}
 use Rattle.recode.specs.JointAnswers as JointAnswers
-use Rattle.recode.specs.JointValue.{joint-small}
-use Rattle.recode.specs.Promise.{row-digits}
-use Rattle.recode.specs.Row.{row}
 use Rattle.recode.specs.RowAnswers as RowAnswers
 use Rattle.chooser.specs.Weights.{marked, nonzero, nonzeroPairs}
 

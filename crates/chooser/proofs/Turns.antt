@@ -10,8 +10,8 @@ use lib.ListN.{length, getD, drop, drop-of-length-le}
 use lib.Seq.{drop-cons}
 use Rattle.digits.specs.Column as Columns
 use Rattle.digits.specs.Two.{two}
-use Rattle.recode.specs.Joint.{joint}
-use Rattle.recode.specs.Row.{row}
+use Rattle.forms.specs.Joint.{joint}
+use Rattle.forms.specs.Row.{row}
 use Rattle.sheet.specs.declared.Plan.{Plan}
 use Rattle.sheet.specs.declared.Plan.the-variants.{J, I}
 use Rattle.sheet.specs.Digits.{weight}

@@ -8,7 +8,7 @@ use lib.IntN.{pos}
 use lib.ListN.{length, getD, set, take, replicate, length-map, List·getD-map}
 use lib.Seq.{set-at, take-suc, take-all, length-take-le}
 use Rattle.digits.specs.Row as Rows
-use Rattle.recode.specs.Row.{row}
+use Rattle.forms.specs.Row.{row}
 use Rattle.sheet.specs.Plan.{odds}
 use Rattle.chooser.specs.Cheapest.{windows}
 use Rattle.chooser.specs.Weights.{rowWeights}

@@ -10,8 +10,8 @@ use lib.ListN.{getD}
 use mir.Facts.{and-yes}
 use Rattle.digits.specs.Row.{value, isWindow, widest}
 use Rattle.digits.specs.Two.{Column}
-use Rattle.recode.specs.Promise.{row-fewest, joint-fewest}
-use Rattle.recode.specs.Row.{row}
+use Rattle.forms.specs.Promise.{row-fewest, joint-fewest}
+use Rattle.forms.specs.Row.{row}
 use Rattle.sheet.specs.declared.Plan.{Plan}
 use Rattle.sheet.specs.declared.Plan.the-variants.{J, I}
 use Rattle.sheet.specs.Digits.{Fits, weight, rowP, rowQ}

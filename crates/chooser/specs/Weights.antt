@@ -3,7 +3,7 @@ use mathlib.Core.List.{List, [], _∷_, map}
 use Prim.Native.Nat.{ℕ, zero, suc, _+_}
 use lib.IntN.{pos}
 use Rattle.digits.specs.Row as Rows
-use Rattle.recode.specs.Row.{row}
+use Rattle.forms.specs.Row.{row}
 use Rattle.chooser.specs.Cheapest.{windows}
 
 -- 1 for a number that is not 0

@@ -6,8 +6,8 @@ ghost use Rattle.digits.specs.Column;
 ghost use Rattle.digits.specs.Row;
 ghost use Rattle.digits.specs.Scalar.{scalar};
 ghost use Rattle.digits.specs.Two.{two};
-ghost use Rattle.recode.specs.Joint.{joint};
-ghost use Rattle.recode.specs.Row as Rows;
+ghost use Rattle.forms.specs.Joint.{joint};
+ghost use Rattle.forms.specs.Row as Rows;
 ghost use Rattle.chooser.specs.Weights.{marked, nonzero, nonzeroPairs, rowWeights};
 
 // 1 where a byte is not 0.

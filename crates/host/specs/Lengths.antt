@@ -11,11 +11,11 @@ use Rattle.digits.specs.Bytes.{Bytes, length-bytes}
 use Rattle.digits.specs.Limits.{card}
 use Rattle.digits.specs.Row.{isWindow}
 use Rattle.digits.specs.Scalar.{scalar}
+use Rattle.forms.specs.Joint.{joint}
+use Rattle.forms.specs.Promise.{row-length, joint-length}
+use Rattle.forms.specs.Row.{row}
 use Rattle.recode.specs.Call as Recoding
 use Rattle.recode.specs.Call.{sized, rowAnswer, jointAnswer}
-use Rattle.recode.specs.Joint.{joint}
-use Rattle.recode.specs.Promise.{row-length, joint-length}
-use Rattle.recode.specs.Row.{row}
 use Rattle.recode.specs.declared.answer.Recoded.the-variants as recoded
 use Rattle.recode.specs.declared.answer.Recoded.{Recoded}
 use Rattle.sheet.specs.Plan.{isLimit}

@@ -15,10 +15,10 @@ use Rattle.digits.specs.Column.{weight}
 use Rattle.digits.specs.Limits.{card}
 use Rattle.digits.specs.Scalar.{bitLength, bitLengthIn}
 use Rattle.digits.specs.Two.{Column, P, Q, two}
-use Rattle.recode.specs.Residue.{residue, width}
-use Rattle.recode.specs.Row
-use Rattle.recode.specs.Joint
-use Rattle.recode.specs.Test.{Test, both, equal, same}
+use Rattle.forms.specs.Residue.{residue, width}
+use Rattle.forms.specs.Row
+use Rattle.forms.specs.Joint
+use Rattle.forms.specs.Test.{Test, both, equal, same}
 use Rattle.sheet.specs.Ascii.{ascii}
 use Rattle.sheet.specs.Numeral.{numeralIn, numeral, figures, followed, number}
 use Rattle.sheet.specs.Plan.{odds}

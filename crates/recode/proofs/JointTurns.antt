@@ -9,10 +9,10 @@ use Rattle.digits.specs.Byte.{byteOf}
 use Rattle.digits.specs.Column as Column
 use Rattle.digits.specs.Two as Two
 use Rattle.digits.specs.Two.{Two, P, Q, of, other, two}
+use Rattle.forms.specs.Joint.{joint, column, digit, rest}
+use Rattle.forms.specs.JointRule.{BothZero, joint-unfold, joint-zero}
+use Rattle.forms.specs.JointValue.{column-digit}
 use Rattle.recode.specs.Call.{filled}
-use Rattle.recode.specs.Joint.{joint, column, digit, rest}
-use Rattle.recode.specs.JointRule.{BothZero, joint-unfold, joint-zero}
-use Rattle.recode.specs.JointValue.{column-digit}
 use Rattle.recode.proofs.Laid.{Laid, laid-none, laid-digit}
 
 -- done stands in the buffers, and the columns of k and l are still to come

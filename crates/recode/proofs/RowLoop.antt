@@ -9,15 +9,15 @@ use Rattle.digits.specs.Byte.{byteOf}
 use Rattle.digits.specs.Bytes.{Bytes}
 use Rattle.digits.specs.Integer.{half}
 use Rattle.digits.specs.Scalar.{little}
+use Rattle.forms.specs.DigitOnly.{digit-meets, digit-mod}
+use Rattle.forms.specs.OddDigit.{digit-small}
+use Rattle.forms.specs.Residue.{width}
+use Rattle.forms.specs.Row.{row, digit, rest}
+use Rattle.forms.specs.RowNatural.{rest-pos}
+use Rattle.forms.specs.Width.{width-least}
 use Rattle.recode.specs.declared.low.Low.{Low}
 use Rattle.recode.specs.Call.{filled}
 use Rattle.recode.specs.Remainder.{remaining, Held}
-use Rattle.recode.specs.DigitOnly.{digit-meets, digit-mod}
-use Rattle.recode.specs.OddDigit.{digit-small}
-use Rattle.recode.specs.Residue.{width}
-use Rattle.recode.specs.Row.{row, digit, rest}
-use Rattle.recode.specs.RowNatural.{rest-pos}
-use Rattle.recode.specs.Width.{width-least}
 use Rattle.recode.proofs.LowRemainder.{Used, remaining-new, remaining-shifted, remaining-zero, remaining-some, remaining-less, digit-low}
 use Rattle.recode.proofs.RowTurns.{Turn, start, skip, store, stop, room, bound}
 

@@ -8,10 +8,10 @@ use lib.IntN.{ℤ, pos}
 use lib.ListN.{length, set, replicate, length-append, length-replicate}
 use Rattle.digits.specs.Byte.{byteOf}
 use Rattle.digits.specs.Integer.{up}
+use Rattle.forms.specs.Row.{row, digit, rest}
+use Rattle.forms.specs.RowNatural.{row-zeros}
+use Rattle.forms.specs.RowOnly.{row-zero, row-unfold}
 use Rattle.recode.specs.Call.{filled}
-use Rattle.recode.specs.Row.{row, digit, rest}
-use Rattle.recode.specs.RowNatural.{row-zeros}
-use Rattle.recode.specs.RowOnly.{row-zero, row-unfold}
 use Rattle.recode.proofs.Laid.{Laid, laid-none, laid-zeros, laid-digit}
 
 -- done stands in the buffer, and the row of r is still to come

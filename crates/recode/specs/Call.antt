@@ -14,8 +14,8 @@ use Rattle.recode.specs.declared.answer.Recoded.{Recoded}
 use Rattle.recode.specs.declared.answer.Recoded.the-variants.{BadScalar, BadWindow, NoRoom, Written}
 use Rattle.digits.specs.Column
 use Rattle.digits.specs.Two.{Two, of, two}
-use Rattle.recode.specs.Joint.{joint}
-use Rattle.recode.specs.Row.{row}
+use Rattle.forms.specs.Joint.{joint}
+use Rattle.forms.specs.Row.{row}
 
 -- the number of the question missed, 0 where none is
 abbrev pub number : Recoded → ℕ

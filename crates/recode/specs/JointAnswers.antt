@@ -12,10 +12,10 @@ use Rattle.digits.specs.Column as Column
 use Rattle.digits.specs.Limits.{Limits}
 use Rattle.digits.specs.Scalar.{scalar}
 use Rattle.digits.specs.Two.{Two, P, Q, of, two}
+use Rattle.forms.specs.Joint.{joint}
 use Rattle.recode.specs.declared.answer.Recoded.{Recoded}
 use Rattle.recode.specs.declared.answer.Recoded.the-variants.{BadScalar, BadWindow, NoRoom, Written}
 use Rattle.recode.specs.Call.{jointAnswer, jointBuffer, left, filled, sized, roomy}
-use Rattle.recode.specs.Joint.{joint}
 
 module _ (limits : Limits) (s t k l : List ℕ) where
   -- what a call returns and leaves, where its answer is a

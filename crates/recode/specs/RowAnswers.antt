@@ -9,10 +9,10 @@ use lib.IntN.{pos}
 use lib.ListN as ListN
 use Rattle.digits.specs.Limits.{Limits}
 use Rattle.digits.specs.Scalar.{scalar}
+use Rattle.forms.specs.Row.{row}
 use Rattle.recode.specs.declared.answer.Recoded.{Recoded}
 use Rattle.recode.specs.declared.answer.Recoded.the-variants.{BadScalar, BadWindow, NoRoom, Written}
 use Rattle.recode.specs.Call.{rowAnswer, rowBuffer, left, filled}
-use Rattle.recode.specs.Row.{row}
 
 -- what a call returns and leaves, where its answer is a
 abbrev pub Returned : Limits → List ℕ → ℕ → List ℕ → Recoded → List ℕ → Type 0

@@ -9,8 +9,8 @@ ghost use Rattle.digits.specs.Limits.{card};
 ghost use Rattle.digits.specs.Scalar;
 ghost use Rattle.digits.specs.Scalar.{little, bitLength};
 ghost use Rattle.digits.specs.Two.{P, Q, two};
+ghost use Rattle.forms.specs.Joint;
 ghost use Rattle.recode.specs.Call.{jointAnswer, jointBuffer, filled};
-ghost use Rattle.recode.specs.Joint;
 use crate::answer::Recoded;
 use crate::low::Low;
 

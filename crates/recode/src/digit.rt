@@ -2,8 +2,8 @@ ghost use mathlib.Core.Path.{_≡_};
 ghost use Prim.Native.Nat.{ℕ, _-_, _%_, _^_, _<_, _≤_};
 ghost use lib.IntN.{pos, natAbs, _-ℤ_};
 ghost use Rattle.digits.specs.Integer.{half};
-ghost use Rattle.recode.specs.Residue.{width};
-ghost use Rattle.recode.specs.Row.{digit};
+ghost use Rattle.forms.specs.Residue.{width};
+ghost use Rattle.forms.specs.Row.{digit};
 
 // 2^(W−1) of a window.
 pub fn half_of(m: u16) -> u16

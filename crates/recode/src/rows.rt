@@ -6,9 +6,9 @@ ghost use lib.ListN.{length, replicate};
 ghost use Rattle.digits.specs.Limits.{card};
 ghost use Rattle.digits.specs.Scalar;
 ghost use Rattle.digits.specs.Scalar.{little, bitLength};
+ghost use Rattle.forms.specs.Residue.{width};
+ghost use Rattle.forms.specs.Row.{row};
 ghost use Rattle.recode.specs.Call.{rowAnswer, rowBuffer, filled};
-ghost use Rattle.recode.specs.Residue.{width};
-ghost use Rattle.recode.specs.Row.{row};
 use crate::answer::Recoded;
 use crate::low::Low;
 

@@ -16,13 +16,13 @@ use Rattle.digits.specs.Limits.{card}
 use Rattle.digits.specs.Row.{Digit, Over, isWindow}
 use Rattle.digits.specs.Scalar.{scalar}
 use Rattle.digits.specs.Two.{Column, Two, P, Q, digit, two, blankColumn}
+use Rattle.forms.specs.Joint.{joint}
+use Rattle.forms.specs.JointValue.{joint-small}
+use Rattle.forms.specs.Row as Row
+use Rattle.forms.specs.RowValue.{row-digits}
 use Rattle.recode.specs.Call.{sized, roomy, length, filled, left, rowAnswer, rowBuffer, jointAnswer, jointBuffer}
 use Rattle.recode.specs.declared.answer.Recoded.{Recoded}
 use Rattle.recode.specs.declared.answer.Recoded.the-variants.{Written}
-use Rattle.recode.specs.Joint.{joint}
-use Rattle.recode.specs.JointValue.{joint-small}
-use Rattle.recode.specs.Row as Row
-use Rattle.recode.specs.RowValue.{row-digits}
 use Rattle.sheet.specs.declared.Plan.the-variants.{J, I}
 use Rattle.sheet.specs.Plan.{point}
 use Rattle.sheet.specs.Planned.{window-of}

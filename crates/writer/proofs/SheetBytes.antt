@@ -9,7 +9,7 @@ use lib.Dec.{T}
 use lib.ListN.{length, getD, take}
 use lib.Seq.{take-suc, take-length}
 use Rattle.digits.specs.Two.{Column, blank, blankColumn}
-use Rattle.recode.specs.Joint.{Topped}
+use Rattle.forms.specs.Joint.{Topped}
 use Rattle.sheet.specs.declared.Largest.{Largest}
 use Rattle.sheet.specs.declared.Plan.{Plan}
 use Rattle.sheet.specs.declared.Plan.the-variants.{J, I}

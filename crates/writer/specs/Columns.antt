@@ -16,12 +16,12 @@ use Rattle.digits.specs.Row.{value, none, Over, empty, more}
 use Rattle.digits.specs.Row as Rows
 use Rattle.digits.specs.Column.{row}
 use Rattle.digits.specs.Two.{Column, P, Q, blank, blank-digit, blankColumn}
-use Rattle.recode.specs.Joint.{Topped}
-use Rattle.recode.specs.JointLength.{joint-length}
-use Rattle.recode.specs.JointValue.{joint-value, joint-small, joint-top}
-use Rattle.recode.specs.Row as Row
-use Rattle.recode.specs.RowLength.{row-length}
-use Rattle.recode.specs.RowValue.{row-digits, row-value, row-top}
+use Rattle.forms.specs.Joint.{Topped}
+use Rattle.forms.specs.JointLength.{joint-length}
+use Rattle.forms.specs.JointValue.{joint-value, joint-small, joint-top}
+use Rattle.forms.specs.Row as Row
+use Rattle.forms.specs.RowLength.{row-length}
+use Rattle.forms.specs.RowValue.{row-digits, row-value, row-top}
 use Rattle.sheet.specs.declared.Plan.{Plan}
 use Rattle.sheet.specs.Digits.{rowP, rowQ, Fits, weight}
 use Rattle.sheet.specs.Plan.{point}

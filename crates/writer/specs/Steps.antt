@@ -13,7 +13,7 @@ use Rattle.digits.specs.Integer.{integers, sum}
 use Rattle.digits.specs.Row.{Digit, none, odd, empty, more}
 use Rattle.digits.specs.Column.{row, Small}
 use Rattle.digits.specs.Two.{Column, P, Q, isZero, blank, blankColumn}
-use Rattle.recode.specs.Joint.{Topped}
+use Rattle.forms.specs.Joint.{Topped}
 use Rattle.sheet.specs.declared.Plan.{Plan}
 use Rattle.sheet.specs.declared.Plan.the-variants.{J, I}
 use Rattle.sheet.specs.Digits.{columnsFrom, Fits}

@@ -5,8 +5,8 @@ use mathlib.Core.List.{List, [], _∷_, _++_, map, reverse}
 use Prim.Native.Nat.{ℕ, zero, suc}
 use lib.IntN.{ℤ, pos}
 use Rattle.digits.specs.Two.{Column, isZero, blank}
-use Rattle.recode.specs.Joint.{joint}
-use Rattle.recode.specs.Row.{row}
+use Rattle.forms.specs.Joint.{joint}
+use Rattle.forms.specs.Row.{row}
 use Rattle.sheet.specs.declared.Plan.{Plan}
 use Rattle.sheet.specs.declared.Plan.the-variants.{J, I}
 use Rattle.sheet.specs.Line.{Kind, Header, Line, interleaved}

@@ -10,10 +10,10 @@ use lib.IntN.{ℤ, pos, negsuc, _-ℤ_, _*ℤ_}
 use mir.Syntax.{w16}
 use mir.Val.{SFits, toZ, ofZ}
 use Rattle.digits.specs.Machine.{small-fits}
-use Rattle.recode.specs.Joint.{digit, turns}
-use Rattle.recode.specs.JointDigit.{digit-rem}
-use Rattle.recode.specs.Residue.{residue}
-use Rattle.recode.specs.Test.{Test, same, everyBelow}
+use Rattle.forms.specs.Joint.{digit, turns}
+use Rattle.forms.specs.JointDigit.{digit-rem}
+use Rattle.forms.specs.Residue.{residue}
+use Rattle.forms.specs.Test.{Test, same, everyBelow}
 use Rattle.recode.proofs.columns.joint_digit.Statement.{statement}
 use Rattle.recode.proofs.columns.joint_digit.Tie as tie
 

@@ -13,10 +13,10 @@ use Rattle.digits.specs.Byte.{byteOf}
 use Rattle.digits.specs.Integer.{half, size, mag-size}
 use Rattle.digits.specs.Machine.{read-back}
 use Rattle.digits.specs.Two.{Two, P, Q, of}
+use Rattle.forms.specs.Joint.{digit}
+use Rattle.forms.specs.Test.{rows}
 use Rattle.recode.specs.declared.low.Low.{Low}
-use Rattle.recode.specs.Joint.{digit}
 use Rattle.recode.specs.Remainder.{Held}
-use Rattle.recode.specs.Test.{rows}
 use Rattle.recode.proofs.JointLoop.{Given, State, begin, refill, finish, inside, small, halved, stored}
 use Rattle.recode.proofs.columns.write_columns.Statement.{statement}
 use Rattle.recode.proofs.columns.write_columns.Tie as tie

@@ -10,9 +10,9 @@ use Rattle.digits.specs.Bytes.{length-bytes}
 use Rattle.digits.specs.Column as Column
 use Rattle.digits.specs.Scalar.{little, scalar, bitLength}
 use Rattle.digits.specs.Two.{P, Q, two}
+use Rattle.forms.specs.Joint.{joint}
+use Rattle.forms.specs.JointLength.{joint-length}
 use Rattle.recode.specs.Call.{filled}
-use Rattle.recode.specs.Joint.{joint}
-use Rattle.recode.specs.JointLength.{joint-length}
 use Rattle.recode.proofs.JointTurns.{row-length}
 use Rattle.recode.proofs.Prefix.{first-length, first-cleared, first-filled, first-places, little-copied}
 use Rattle.recode.proofs.columns.write_joint.Statement.{statement}

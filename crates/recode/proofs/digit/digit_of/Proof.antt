@@ -11,7 +11,7 @@ use mir.Val.{SFits, toZ, ofZ}
 use mir.Facts.{toZ-pos, toZ-ofZ}
 use Rattle.digits.specs.Integer.{difference, one-side}
 use Rattle.digits.specs.Machine.{small-fits}
-use Rattle.recode.specs.Row.{digit}
+use Rattle.forms.specs.Row.{digit}
 use Rattle.recode.proofs.Window.{half-bounds, masked, halfFrom, half-from, half-most, chosen, chosen-is}
 use Rattle.recode.proofs.digit.digit_of.Statement.{statement}
 use Rattle.recode.proofs.digit.digit_of.Tie as tie

@@ -12,8 +12,8 @@ use mir.Facts.{toZ-ofZ}
 use Rattle.digits.specs.Byte.{byteOf}
 use Rattle.digits.specs.Integer.{half, size, mag-size}
 use Rattle.digits.specs.Machine.{read-back}
+use Rattle.forms.specs.Row.{digit}
 use Rattle.recode.specs.Remainder.{Held}
-use Rattle.recode.specs.Row.{digit}
 use Rattle.recode.proofs.RowLoop.{Given, State, begin, refill, finish, skipped, still, inside, small, halved, stored, reached}
 use Rattle.recode.proofs.rows.write_digits.Statement.{statement}
 use Rattle.recode.proofs.rows.write_digits.Tie as tie

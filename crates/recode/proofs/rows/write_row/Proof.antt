@@ -8,9 +8,9 @@ use lib.IntN.{pos}
 use lib.ListN.{length}
 use Rattle.digits.specs.Bytes.{length-bytes}
 use Rattle.digits.specs.Scalar.{little, scalar, bitLength}
+use Rattle.forms.specs.Row.{row}
+use Rattle.forms.specs.RowLength.{row-length}
 use Rattle.recode.specs.Call.{filled}
-use Rattle.recode.specs.Row.{row}
-use Rattle.recode.specs.RowLength.{row-length}
 use Rattle.recode.proofs.Prefix.{first-length, first-cleared, first-filled, little-copied}
 use Rattle.recode.proofs.rows.write_row.Statement.{statement}
 use Rattle.recode.proofs.rows.write_row.Tie as tie

@@ -10,10 +10,10 @@ use lib.ListN.{replicate}
 use lib.IntN.{ℤ, pos, _+ℤ_, _-ℤ_}
 use Rattle.digits.specs.Integer.{up, down, integers, one-side, size, difference}
 use Rattle.digits.specs.Congruent.{power-step, Apart}
-use Rattle.recode.specs.Row.{DigitRule, even, place, digit, rest, row}
-use Rattle.recode.specs.DigitOnly.{digit-meets}
-use Rattle.recode.specs.OddDigit.{OddDigit, Cases, digit-cases, halves, rest-apart}
-use Rattle.recode.specs.RowOnly.{rest-twice, row-meets, row-only}
+use Rattle.forms.specs.Row.{DigitRule, even, place, digit, rest, row}
+use Rattle.forms.specs.DigitOnly.{digit-meets}
+use Rattle.forms.specs.OddDigit.{OddDigit, Cases, digit-cases, halves, rest-apart}
+use Rattle.forms.specs.RowOnly.{rest-twice, row-meets, row-only}
 
 module _ {m : ℕ} (c d c′ : ℤ) (e : c -ℤ d ≡ c′ +ℤ c′) (h : 1 ≤ m) (natural : down c ≡ 0) where
   -- what is left above the digit of a natural number has no negative part

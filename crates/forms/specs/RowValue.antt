@@ -8,9 +8,9 @@ use lib.ListN.{length, getD}
 use lib.IntN.{ℤ, pos, _+ℤ_}
 use Rattle.digits.specs.Integer.{integers, sum}
 use Rattle.digits.specs.Row.{value, Digit, none, odd, Over, empty, more}
-use Rattle.recode.specs.Row.{RowRule, end, place, row}
-use Rattle.recode.specs.OddDigit.{Cases, digit-cases, halves}
-use Rattle.recode.specs.RowOnly.{row-meets}
+use Rattle.forms.specs.Row.{RowRule, end, place, row}
+use Rattle.forms.specs.OddDigit.{Cases, digit-cases, halves}
+use Rattle.forms.specs.RowOnly.{row-meets}
 
 rule-digit : {m : ℕ} {c d : ℤ} → Cases m c d → Digit m d
 rule-digit {m} (inl p) = rw (p .1) none

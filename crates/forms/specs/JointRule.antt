@@ -11,8 +11,8 @@ use lib.IntN.{ℤ, pos, _+ℤ_, natAbs}
 use borrow.Author.Tests.{eqb-true, eqb-false}
 use Rattle.digits.specs.Integer.{integers, size}
 use Rattle.digits.specs.Two.{Column}
-use Rattle.recode.specs.Joint.{digit, column, rest, jointIn, joint}
-use Rattle.recode.specs.JointDigit.{rest-is, rest-only, rest-falls}
+use Rattle.forms.specs.Joint.{digit, column, rest, jointIn, joint}
+use Rattle.forms.specs.JointDigit.{rest-is, rest-only, rest-falls}
 
 -- k and l are both 0
 abbrev pub BothZero : ℤ → ℤ → Type 0

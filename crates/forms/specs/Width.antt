@@ -6,7 +6,7 @@ use native.Mathlib.Numerals.{sub-one}
 use native.Mathlib.Omega.{arith}
 use Rattle.digits.specs.Scalar.{bitLength}
 use Rattle.digits.specs.Length.{below-length, length-least, length-step}
-use Rattle.recode.specs.Residue.{width}
+use Rattle.forms.specs.Residue.{width}
 
 -- W is the smallest number with m < 2^(W−1)
 pub width-least : (m : ℕ) → 1 ≤ m → (m < 2 ^ (width m - 1)) × ((v : ℕ) → m < 2 ^ (v - 1) → width m ≤ v)

@@ -10,9 +10,9 @@ use Rattle.digits.specs.Integer.{up, down, integers, size}
 use Rattle.digits.specs.Congruent.{Congruent, power-step}
 use Rattle.digits.specs.Row.{value, Over, count, weight, value-parts}
 use Rattle.digits.specs.RowAdding.{HasRow, Begins, Halfway, count-most, halfway, own, moved, halved, begins, strip}
-use Rattle.recode.specs.Row.{RowRule, end, place, row}
-use Rattle.recode.specs.OddDigit.{OddDigit, Cases, digit-cases, halves, rest-multiple}
-use Rattle.recode.specs.RowOnly.{row-meets}
+use Rattle.forms.specs.Row.{RowRule, end, place, row}
+use Rattle.forms.specs.OddDigit.{OddDigit, Cases, digit-cases, halves, rest-multiple}
+use Rattle.forms.specs.RowOnly.{row-meets}
 
 -- one place: a row of c gives one of what is left, c′, that is lighter by what the digit d counts
 module _ {m : ℕ} (c d c′ : ℤ) (e : c -ℤ d ≡ c′ +ℤ c′) {w : ℕ} (r : HasRow m (up c) (down c) w) where

@@ -10,7 +10,7 @@ use lib.IntN.{ℤ, pos, negsuc, _+ℤ_, _-ℤ_, _*ℤ_, negℤ, natAbs}
 use Rattle.digits.specs.Integer.{rem, half}
 use Rattle.digits.specs.Two as Two
 use Rattle.digits.specs.Two.{Column, P, Q, other, blank, blankColumn}
-use Rattle.recode.specs.Residue.{residue}
+use Rattle.forms.specs.Residue.{residue}
 
 -- the column at a place; above the top there are zero columns
 abbrev pub at : List Column → ℕ → Column

@@ -6,12 +6,12 @@ use Prim.Native.Nat.{ℕ, zero, suc, _*_, _<_}
 use native.Mathlib.Omega.{arith}
 use lib.IntN.{ℤ, pos}
 use Rattle.digits.specs.Integer.{up, down, rem, rem-lt, quo, division, half}
-use Rattle.recode.specs.Residue.{residue}
-use Rattle.recode.specs.Joint.{Keeps, at, digit, column, rest, joint}
-use Rattle.recode.specs.JointDigit.{Alike, alike-rem, alike-rest, digit-mod}
-use Rattle.recode.specs.JointRule.{zero-or-not, joint-unfold, joint-zero}
-use Rattle.recode.specs.JointTriple.{Triple, triple, triple-keeps}
-use Rattle.recode.specs.Test.{Test, everyBelow}
+use Rattle.forms.specs.Residue.{residue}
+use Rattle.forms.specs.Joint.{Keeps, at, digit, column, rest, joint}
+use Rattle.forms.specs.JointDigit.{Alike, alike-rem, alike-rest, digit-mod}
+use Rattle.forms.specs.JointRule.{zero-or-not, joint-unfold, joint-zero}
+use Rattle.forms.specs.JointTriple.{Triple, triple, triple-keeps}
+use Rattle.forms.specs.Test.{Test, everyBelow}
 
 -- the columns of k and l, of what is left, and of what is left of that
 abbrev Three : ℤ → ℤ → Type 0

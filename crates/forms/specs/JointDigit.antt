@@ -9,9 +9,9 @@ use lib.Dec.{eqb}
 use lib.IntN.{ℤ, pos, negsuc, _+ℤ_, _-ℤ_, natAbs}
 use borrow.Author.Tests.{eqb-true, eqb-false}
 use Rattle.digits.specs.Integer.{up, down, integers, sum, difference, size, one-side, rem, rem-lt, rem-only, quo, division, half-even}
-use Rattle.recode.specs.Residue.{residue}
-use Rattle.recode.specs.Joint.{digit, rest}
-use Rattle.recode.specs.Test.{Test, both, within, equal, everyBelow}
+use Rattle.forms.specs.Residue.{residue}
+use Rattle.forms.specs.Joint.{digit, rest}
+use Rattle.forms.specs.Test.{Test, both, within, equal, everyBelow}
 
 -- the remainders by 2 and by 4, from that by 8
 pub rem-two : (c : ℤ) → natAbs c % 2 ≡ rem c 8 % 2

@@ -7,10 +7,10 @@ use native.Mathlib.Omega.{arith}
 use lib.IntN.{ℤ, pos, negsuc, _+ℤ_, _-ℤ_, natAbs}
 use Rattle.digits.specs.Integer.{up, down, integers, one-side, size, sum, difference}
 use Rattle.digits.specs.Congruent.{Congruent, power-step, turned, joined, coarser-power, near-only, Apart, congruent-apart, two-of-three}
-use Rattle.recode.specs.Residue.{Residue}
-use Rattle.recode.specs.ResidueOnly.{congruent, bounded}
-use Rattle.recode.specs.Width.{WidthIs, width-is}
-use Rattle.recode.specs.Row.{DigitRule, even, wide, narrow}
+use Rattle.forms.specs.Residue.{Residue}
+use Rattle.forms.specs.ResidueOnly.{congruent, bounded}
+use Rattle.forms.specs.Width.{WidthIs, width-is}
+use Rattle.forms.specs.Row.{DigitRule, even, wide, narrow}
 
 -- the digit d of an odd c is odd, within the window, below 2^j, and the window's only digit that leaves c − d divisible by 2^(j+1)
 pub record OddDigit (m : ℕ) (c d : ℤ) : Type 0 where

@@ -10,20 +10,20 @@ use Rattle.digits.specs.Row.{value, weight, Over}
 use Rattle.digits.specs.Column as Columns
 use Rattle.digits.specs.Scalar.{bitLength}
 use Rattle.digits.specs.Two.{Column, P, Q, two}
-use Rattle.recode.specs.Residue.{Residue, residue, width}
-use Rattle.recode.specs.Row.{RowRule, row}
-use Rattle.recode.specs.Joint.{Keeps, Topped, joint}
-use Rattle.recode.specs.ResidueOnly
-use Rattle.recode.specs.Width
-use Rattle.recode.specs.RowOnly
-use Rattle.recode.specs.RowValue
-use Rattle.recode.specs.RowLength
-use Rattle.recode.specs.RowFewest
-use Rattle.recode.specs.JointValue
-use Rattle.recode.specs.JointKeeps
-use Rattle.recode.specs.JointUnique
-use Rattle.recode.specs.JointFewest
-use Rattle.recode.specs.JointLength
+use Rattle.forms.specs.Residue.{Residue, residue, width}
+use Rattle.forms.specs.Row.{RowRule, row}
+use Rattle.forms.specs.Joint.{Keeps, Topped, joint}
+use Rattle.forms.specs.ResidueOnly
+use Rattle.forms.specs.Width
+use Rattle.forms.specs.RowOnly
+use Rattle.forms.specs.RowValue
+use Rattle.forms.specs.RowLength
+use Rattle.forms.specs.RowFewest
+use Rattle.forms.specs.JointValue
+use Rattle.forms.specs.JointKeeps
+use Rattle.forms.specs.JointUnique
+use Rattle.forms.specs.JointFewest
+use Rattle.forms.specs.JointLength
 
 -- ── One row, for every window m ─────────────────────────────────────────────────────────────
 

@@ -10,9 +10,9 @@ use lib.Pow.{pow-mono}
 use Rattle.digits.specs.Integer.{integers, size}
 use Rattle.digits.specs.Scalar.{bitLength, bitLengthIn}
 use Rattle.digits.specs.Two.{Column}
-use Rattle.recode.specs.Joint.{rest, joint}
-use Rattle.recode.specs.JointDigit.{digit-fits, rest-only, rest-size, rest-falls}
-use Rattle.recode.specs.JointRule.{JointRule, end, place, joint-rule}
+use Rattle.forms.specs.Joint.{rest, joint}
+use Rattle.forms.specs.JointDigit.{digit-fits, rest-only, rest-size, rest-falls}
+use Rattle.forms.specs.JointRule.{JointRule, end, place, joint-rule}
 
 -- a number is below the power of its bit length
 bits-in : (f n : ℕ) → n ≤ f → n < 2 ^ bitLengthIn f n

@@ -7,8 +7,8 @@ use Prim.Native.Nat.{ℕ, suc, _≤_}
 use lib.Dec.{T}
 use lib.IntN.{ℤ, pos, negsuc, _*ℤ_, natAbs}
 use Rattle.digits.specs.Two.{Column, Two, other, digit, blank}
-use Rattle.recode.specs.Joint.{Keeps, at}
-use Rattle.recode.specs.Test.{Test, passes, fails, both, either, implies, within, same, everyRow}
+use Rattle.forms.specs.Joint.{Keeps, at}
+use Rattle.forms.specs.Test.{Test, passes, fails, both, either, implies, within, same, everyRow}
 
 -- the size of the digit of the lower column c in the row r, and (b) and (c) for c and the higher column h
 abbrev pub RowRules : Column → Column → Two → Type 0

@@ -10,9 +10,9 @@ use Rattle.digits.specs.Row.{value}
 use Rattle.digits.specs.Column.{row, Small, empty, more}
 use Rattle.digits.specs.Two as Two
 use Rattle.digits.specs.Two.{Column, Two, P, Q, of, two, blank, blank-digit}
-use Rattle.recode.specs.Joint.{Topped, column, digit, joint}
-use Rattle.recode.specs.JointDigit.{digit-fits}
-use Rattle.recode.specs.JointRule.{JointRule, end, place, joint-rule}
+use Rattle.forms.specs.Joint.{Topped, column, digit, joint}
+use Rattle.forms.specs.JointDigit.{digit-fits}
+use Rattle.forms.specs.JointRule.{JointRule, end, place, joint-rule}
 
 -- the digit of the column in each row
 pub column-digit : (k l : ℤ) (r : Two) → Two.digit (column k l) r ≡ digit (of k l r) (of l k r)

@@ -8,7 +8,7 @@ use Prim.Native.Nat.{ℕ, zero, suc, _-_, _%_, _≤_, _<_}
 use lib.Dec.{eqb, leb}
 use lib.IntN.{ℤ, pos, negsuc, _+ℤ_, _-ℤ_, natAbs}
 use Rattle.digits.specs.Integer.{half}
-use Rattle.recode.specs.Residue.{Residue, residue, width}
+use Rattle.forms.specs.Residue.{Residue, residue, width}
 
 -- d is the digit of the remainder c
 pub data DigitRule (m : ℕ) (c : ℤ) : ℤ → Type 0 where

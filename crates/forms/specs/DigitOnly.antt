@@ -11,10 +11,10 @@ use lib.IntN.{ℤ, pos, natAbs}
 use mir.Facts.{eqb-no}
 use Rattle.digits.specs.Integer.{rem, size}
 use Rattle.digits.specs.Congruent.{Congruent, turned, joined, coarser-power, rem-congruent}
-use Rattle.recode.specs.Residue.{Residue, residue, width}
-use Rattle.recode.specs.ResidueOnly.{congruent, divides, residue-meets, residue-only}
-use Rattle.recode.specs.Width.{width-is}
-use Rattle.recode.specs.Row.{DigitRule, even, wide, narrow, digit, within}
+use Rattle.forms.specs.Residue.{Residue, residue, width}
+use Rattle.forms.specs.ResidueOnly.{congruent, divides, residue-meets, residue-only}
+use Rattle.forms.specs.Width.{width-is}
+use Rattle.forms.specs.Row.{DigitRule, even, wide, narrow, digit, within}
 
 -- where the residue for W is not within the window, W − 1 is at least 2
 narrower : (m : ℕ) (n : ℕ) → 1 ≤ m → m < n → n < 2 ^ (width m - 1) → 2 ≤ width m - 1

@@ -7,9 +7,9 @@ use native.Mathlib.Omega.{arith}
 use lib.IntN.{ℤ, pos, negsuc, _+ℤ_, _-ℤ_, natAbs, pos-ne-negsuc}
 use Rattle.digits.specs.Integer.{up, half, half-even, integers, size, difference, sum}
 use Rattle.digits.specs.Congruent.{power-step}
-use Rattle.recode.specs.Row.{RowRule, end, place, digit, rest, rowIn, row}
-use Rattle.recode.specs.DigitOnly.{digit-meets, digit-only}
-use Rattle.recode.specs.OddDigit.{Cases, digit-cases, halves, falls}
+use Rattle.forms.specs.Row.{RowRule, end, place, digit, rest, rowIn, row}
+use Rattle.forms.specs.DigitOnly.{digit-meets, digit-only}
+use Rattle.forms.specs.OddDigit.{Cases, digit-cases, halves, falls}
 
 -- c less its digit is twice what is left
 pub rest-twice : (m : ℕ) (c : ℤ) → 1 ≤ m → c -ℤ digit m c ≡ rest m c +ℤ rest m c

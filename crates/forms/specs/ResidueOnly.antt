@@ -11,7 +11,7 @@ use lib.Pow.{pow-pos}
 use lib.IntN.{ℤ, pos, _-ℤ_, negℤ, natAbs, subℕ}
 use Rattle.digits.specs.Integer.{up, down, quo, rem, rem-lt, division, integers, size, difference, negation, times, up-subℕ}
 use Rattle.digits.specs.Congruent.{Congruent, power-step, turned, joined, near-only}
-use Rattle.recode.specs.Residue.{Divides, Residue, residue}
+use Rattle.forms.specs.Residue.{Divides, Residue, residue}
 
 -- c is congruent to its residue
 pub congruent : {w : ℕ} {c r : ℤ} → Residue w c r → Congruent (2 ^ w) c r

@@ -12,11 +12,11 @@ use Rattle.digits.specs.Column.{row, weight, Small, counted}
 use Rattle.digits.specs.Adding as Adding
 use Rattle.digits.specs.Adding.{Has, Above}
 use Rattle.digits.specs.Two.{Column, Two, P, Q, two, blank, of}
-use Rattle.recode.specs.Residue.{residue}
-use Rattle.recode.specs.Joint.{digit, column, rest, joint}
-use Rattle.recode.specs.JointDigit.{Alike, Split, alike-rem, alike-rest, rem-two, digit-rem, rest-only, rest-parts, digit-fits}
-use Rattle.recode.specs.JointRule.{JointRule, end, place, joint-rule}
-use Rattle.recode.specs.Test.{Test, both, either, fails, equal, everyBelow, everyRow, someRow, rows}
+use Rattle.forms.specs.Residue.{residue}
+use Rattle.forms.specs.Joint.{digit, column, rest, joint}
+use Rattle.forms.specs.JointDigit.{Alike, Split, alike-rem, alike-rest, rem-two, digit-rem, rest-only, rest-parts, digit-fits}
+use Rattle.forms.specs.JointRule.{JointRule, end, place, joint-rule}
+use Rattle.forms.specs.Test.{Test, both, either, fails, equal, everyBelow, everyRow, someRow, rows}
 
 -- x and y are the remainders of two numbers by 8, t and s those of what is left of them by 4: both numbers are even; or one is
 -- odd, and what is left is even in both rows, or it is odd in a row with an even number and in neither row 2 modulo 4

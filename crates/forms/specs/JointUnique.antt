@@ -11,12 +11,12 @@ use Rattle.digits.specs.Row.{value}
 use Rattle.digits.specs.Column.{row}
 use Rattle.digits.specs.Two as Two
 use Rattle.digits.specs.Two.{Column, Two, P, Q, other, two, blankColumn}
-use Rattle.recode.specs.Residue.{residue}
-use Rattle.recode.specs.Joint.{Keeps, Topped, at, digitAt, digit, column, joint}
-use Rattle.recode.specs.JointDigit.{Split, alike-rem, digit-mod}
-use Rattle.recode.specs.JointRule.{BothZero, JointRule, end, place, joint-rule-only, joint-zero}
-use Rattle.recode.specs.JointTriple.{Triple, triple, keeps-triple}
-use Rattle.recode.specs.Test.{Test, implies, same, everyDigit, everyRow, rows}
+use Rattle.forms.specs.Residue.{residue}
+use Rattle.forms.specs.Joint.{Keeps, Topped, at, digitAt, digit, column, joint}
+use Rattle.forms.specs.JointDigit.{Split, alike-rem, digit-mod}
+use Rattle.forms.specs.JointRule.{BothZero, JointRule, end, place, joint-rule-only, joint-zero}
+use Rattle.forms.specs.JointTriple.{Triple, triple, keeps-triple}
+use Rattle.forms.specs.Test.{Test, implies, same, everyDigit, everyRow, rows}
 
 -- all columns of digits −1, 0, 1
 abbrev SmallColumn : Column → Type 0

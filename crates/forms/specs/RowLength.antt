@@ -14,10 +14,10 @@ use Rattle.digits.specs.Integer.{up, down, integers, one-side, size}
 use Rattle.digits.specs.Congruent.{Congruent, power-split, turned, joined, Apart, congruent-apart}
 use Rattle.digits.specs.Scalar.{bitLength}
 use Rattle.digits.specs.Length.{below-length}
-use Rattle.recode.specs.Row.{DigitRule, RowRule, end, place, row}
-use Rattle.recode.specs.OddDigit.{OddDigit, Cases, digit-cases, halves, rest-multiple, rest-apart, falls}
-use Rattle.recode.specs.RowOnly.{row-meets}
-use Rattle.recode.specs.RowNatural.{rest-natural}
+use Rattle.forms.specs.Row.{DigitRule, RowRule, end, place, row}
+use Rattle.forms.specs.OddDigit.{OddDigit, Cases, digit-cases, halves, rest-multiple, rest-apart, falls}
+use Rattle.forms.specs.RowOnly.{row-meets}
+use Rattle.forms.specs.RowNatural.{rest-natural}
 
 -- 2^b is a multiple of each lower power of two
 power-multiple : (j b : ℕ) → j ≤ b → Congruent (2 ^ j) (pos (2 ^ b)) (pos 0)

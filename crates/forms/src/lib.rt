@@ -1,0 +1,1 @@
+// Rows and the joint sparse form: definitions and theorems, in specs/.
