@@ -14,12 +14,12 @@ use Rattle.sheet.specs.declared.Plan.{Plan}
 use Rattle.sheet.specs.declared.Plan.the-variants.{J, I}
 use Rattle.sheet.specs.Plan.{mostSlots}
 use Rattle.sheet.specs.Planned.{of-window}
+use Rattle.written.specs.Valid.{Valid, forJ, forI}
+use Rattle.written.specs.Written.{written}
 use Rattle.writer.specs.declared.answer.Sheet.{Sheet}
 use Rattle.writer.specs.declared.answer.Sheet.the-variants.{BadScalar, NoRoom, BadLimit}
 use Rattle.writer.specs.Call.{roomy, wrote, left, jAnswer, jBuffer, iAnswer, iBuffer}
 use Rattle.writer.specs.Met.{both, bounded}
-use Rattle.writer.specs.Valid.{Valid, forJ, forI}
-use Rattle.writer.specs.Written.{written}
 use Rattle.chooser.specs.Call.{planAnswer, planBuffer, cheapestAnswer, cheapestBuffer, Promised}
 use Rattle.chooser.specs.Cheapest.{cheapestPlan, cheapest}
 use Rattle.chooser.specs.Least.{plan-within}

@@ -17,10 +17,10 @@ use Rattle.sheet.specs.declared.Plan.the-variants.{J, I}
 use Rattle.sheet.specs.Digits.{weight}
 use Rattle.sheet.specs.Plan.{slots, isWithin, tableAdditions}
 use Rattle.sheet.specs.Sound.{Window}
-use Rattle.writer.specs.Accepted.{written-cost}
-use Rattle.writer.specs.Valid.{Valid, forJ, forI}
-use Rattle.writer.specs.Columns.{paired-weight}
-use Rattle.writer.specs.Written.{digits, first}
+use Rattle.written.specs.Accepted.{written-cost}
+use Rattle.written.specs.Valid.{Valid, forJ, forI}
+use Rattle.written.specs.Columns.{paired-weight}
+use Rattle.written.specs.Written.{digits, first}
 use Rattle.chooser.specs.Cheapest.{cheapestPlan, key, rank, plans, within}
 use Rattle.chooser.specs.Choice.{planWeight, costKey}
 use Rattle.chooser.specs.Least.{within-valid}

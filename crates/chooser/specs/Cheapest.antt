@@ -6,7 +6,7 @@ use Rattle.digits.specs.Row.{isWindow}
 use Rattle.sheet.specs.declared.Plan.{Plan}
 use Rattle.sheet.specs.declared.Plan.the-variants.{J, I}
 use Rattle.sheet.specs.Plan.{odds, slots, isWithin}
-use Rattle.writer.specs.Written.{first, written, writtenAdditions}
+use Rattle.written.specs.Written.{first, written, writtenAdditions}
 use Rattle.chooser.specs.Lexicographic.{least}
 
 -- the sixteen windows

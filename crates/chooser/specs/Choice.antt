@@ -5,7 +5,7 @@ use lib.ListN.{getD}
 use Rattle.sheet.specs.declared.Plan.{Plan}
 use Rattle.sheet.specs.declared.Plan.the-variants.{J, I}
 use Rattle.sheet.specs.Plan.{slots, tableAdditions}
-use Rattle.writer.specs.Written.{first}
+use Rattle.written.specs.Written.{first}
 use Rattle.chooser.specs.Cheapest.{rank}
 use Rattle.chooser.specs.declared.choice.Cost.{Cost}
 

@@ -28,10 +28,10 @@ use Rattle.sheet.specs.Line.{Kind, Header, plan, planOf}
 use Rattle.sheet.specs.Rows.{accepted-rows}
 use Rattle.sheet.specs.Sound.{Sound, Windows, forJ, forI, sheetLines}
 use Rattle.sheet.specs.Spelling.{lines}
-use Rattle.writer.specs.Accepted.{written-accepted, written-lines, written-slots, written-counted, written-cost, written-columns}
-use Rattle.writer.specs.Valid as Valids
-use Rattle.writer.specs.Valid.{Valid}
-use Rattle.writer.specs.Written.{digits, writtenAdditions}
+use Rattle.written.specs.Accepted.{written-accepted, written-lines, written-slots, written-counted, written-cost, written-columns}
+use Rattle.written.specs.Valid as Valids
+use Rattle.written.specs.Valid.{Valid}
+use Rattle.written.specs.Written.{digits, writtenAdditions}
 use Rattle.chooser.specs.Cheapest.{cheapestPlan, cheapest}
 use Rattle.chooser.specs.Least.{digits-fewest, plan-within, plan-least}
 

@@ -17,9 +17,9 @@ use Rattle.sheet.specs.declared.Plan.the-variants.{J, I}
 use Rattle.sheet.specs.Digits.{Fits, weight, rowP, rowQ}
 use Rattle.sheet.specs.Plan.{slots}
 use Rattle.sheet.specs.Sound.{Window}
-use Rattle.writer.specs.Valid.{Valid, forJ, forI, window-positive}
-use Rattle.writer.specs.Columns.{paired-weight}
-use Rattle.writer.specs.Written.{digits, writtenAdditions, first}
+use Rattle.written.specs.Valid.{Valid, forJ, forI, window-positive}
+use Rattle.written.specs.Columns.{paired-weight}
+use Rattle.written.specs.Written.{digits, writtenAdditions, first}
 use Rattle.chooser.specs.Lexicographic.{In, before, before-first, before-same, least-one, least-least}
 use Rattle.chooser.specs.Cheapest.{cheapestPlan, key, rank, plans, within}
 use Rattle.chooser.specs.Lists.{in-plans, joint-in-plans, in-within, within-in, plans-valid, isValid}

@@ -11,8 +11,8 @@ use Rattle.recode.specs.Call.{sized}
 use Rattle.writer.specs.declared.answer.Sheet.{Sheet}
 use Rattle.writer.specs.declared.answer.Sheet.the-variants.{BadScalar, NoRoom, BadLimit}
 use Rattle.sheet.specs.Plan.{isLimit}
+use Rattle.written.specs.Written.{writtenAdditions}
 use Rattle.writer.specs.Call.{roomy, wrote, left}
-use Rattle.writer.specs.Written.{writtenAdditions}
 use Rattle.chooser.specs.Cheapest.{cheapestPlan, cheapest}
 use Rattle.chooser.specs.Call.{cheapestAnswer, cheapestBuffer, Cheapest, Promised}
 use Rattle.chooser.specs.Demand3.{additions-of, cheapest-is-least, cheapest-accepted, cheapest-within, cheapest-counted}

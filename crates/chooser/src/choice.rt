@@ -5,7 +5,7 @@ ghost use lib.ListN.{length, getD};
 ghost use Rattle.digits.specs.Scalar.{scalar};
 ghost use Rattle.sheet.specs.declared.Plan.{Plan};
 ghost use Rattle.sheet.specs.Plan.{isWithin};
-ghost use Rattle.writer.specs.Written.{first};
+ghost use Rattle.written.specs.Written.{first};
 ghost use Rattle.chooser.specs.Cheapest.{cheapestPlan, plans, rank, within};
 ghost use Rattle.chooser.specs.Choice.{keyOf, planWeight, costKey};
 ghost use Rattle.chooser.specs.Lexicographic.{before, better, least};

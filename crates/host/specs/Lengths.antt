@@ -22,11 +22,11 @@ use Rattle.sheet.specs.Plan.{isLimit}
 use Rattle.sheet.specs.Planned.{window-of}
 use Rattle.sheet.specs.declared.Plan.{Plan}
 use Rattle.sheet.specs.declared.Plan.the-variants.{J, I}
-use Rattle.writer.specs.Accepted.{written-fits}
+use Rattle.written.specs.Accepted.{written-fits}
+use Rattle.written.specs.Valid.{Valid, forJ}
 use Rattle.writer.specs.Call as Writing
 use Rattle.writer.specs.Call.{wrote, jAnswer, iAnswer}
 use Rattle.writer.specs.Met.{both, few-bytes, bounded, windows-valid}
-use Rattle.writer.specs.Valid.{Valid, forJ}
 use Rattle.writer.specs.declared.answer.Sheet.the-variants as sheet
 use Rattle.writer.specs.declared.answer.Sheet.{Sheet}
 use Rattle.chooser.specs.Call.{cheapestAnswer}

@@ -14,11 +14,11 @@ use Rattle.recode.specs.Call.{sized}
 use Rattle.sheet.specs.Numeral.{numeral, followed}
 use Rattle.sheet.specs.Plan.{isLimit}
 use Rattle.sheet.specs.Spelling.{comma, cut, lineFeed}
+use Rattle.written.specs.Written.{written}
 use Rattle.writer.specs.Call as Call
 use Rattle.writer.specs.Call.{wrote, left, number}
 use Rattle.writer.specs.declared.answer.Sheet.{Sheet}
 use Rattle.writer.specs.declared.answer.Sheet.the-variants.{BadScalar, BadWindow, NoRoom, BadLimit, Written}
-use Rattle.writer.specs.Written.{written}
 use Rattle.sheet.specs.NumeralFigures.{numeral-low}
 use Rattle.chooser.specs.Call.{cheapestAnswer, cheapestBuffer}
 use Rattle.chooser.specs.Cheapest.{cheapestPlan, cheapest}

@@ -25,7 +25,7 @@ use Rattle.sheet.specs.Plan.{odds}
 use Rattle.sheet.specs.Questions.{additions, doublings}
 use Rattle.sheet.specs.Sound.{moveLines, sheetLines}
 use Rattle.sheet.specs.Spelling.{lineFeed, join, spell, cut}
-use Rattle.writer.specs.Written.{paired, digits, addAll, movesOf, stepsOf, writtenLines, written, writtenAdditions}
+use Rattle.written.specs.Written.{paired, digits, addAll, movesOf, stepsOf, writtenLines, written, writtenAdditions}
 use Rattle.chooser.specs.Cheapest.{interleaved, plans, within, key, cheapestPlan, cheapest}
 use Rattle.chooser.specs.Lexicographic.{before, least}
 use Rattle.order.specs.Order.{lineOf, readFields, readOrder, printed}

@@ -27,11 +27,11 @@ use Rattle.sheet.specs.declared.Plan.the-variants.{J, I}
 use Rattle.sheet.specs.Plan.{point}
 use Rattle.sheet.specs.Planned.{window-of}
 use Rattle.sheet.specs.Sound.{Window}
-use Rattle.writer.specs.Columns.{paired-at, paired-length}
+use Rattle.written.specs.Columns.{paired-at, paired-length}
+use Rattle.written.specs.Valid.{window-positive}
+use Rattle.written.specs.Written.{digits}
 use Rattle.writer.specs.Met.{both, few-bytes, bounded}
-use Rattle.writer.specs.Valid.{window-positive}
 use Rattle.writer.specs.Parts.{signed, Holds, Bounded}
-use Rattle.writer.specs.Written.{digits}
 use Rattle.writer.proofs.Signs.{signed-byte}
 
 -- ── a digit in a filled buffer ──────────────────────────────────────────────────────────────

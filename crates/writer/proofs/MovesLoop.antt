@@ -8,8 +8,8 @@ use Rattle.sheet.specs.declared.Plan.{Plan}
 use Rattle.sheet.specs.Digits.{weight}
 use Rattle.sheet.specs.Spelling.{lineFeed}
 use Rattle.sheet.specs.Rows.{weigh, weight-none, weight-more}
+use Rattle.written.specs.Written.{placeSteps}
 use Rattle.writer.specs.Parts.{Put, Room, stepsBytes, columnAt, columnsBelow}
-use Rattle.writer.specs.Written.{placeSteps}
 use Rattle.writer.proofs.Puts.{Progress, begun, advance, finished, progress-same, progress-room, room-first}
 use Rattle.writer.proofs.StepBytes.{movesBytes, moves-none, moves-more}
 

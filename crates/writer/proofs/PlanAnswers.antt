@@ -14,10 +14,10 @@ use Rattle.digits.specs.Row.{isWindow}
 use Rattle.digits.specs.Scalar.{scalar}
 use Rattle.recode.specs.Call.{sized}
 use Rattle.sheet.specs.declared.Plan.the-variants.{J, I}
+use Rattle.written.specs.Written.{written}
 use Rattle.writer.specs.declared.answer.Sheet.{Sheet}
 use Rattle.writer.specs.declared.answer.Sheet.the-variants.{BadScalar, BadWindow, NoRoom}
 use Rattle.writer.specs.Call.{wrote, left, jAnswer, jBuffer, iAnswer, iBuffer}
-use Rattle.writer.specs.Written.{written}
 
 -- question 1
 pub sized-none : (s : List ℕ) → ListN.length s ≡ 0 → false ≡ sized card s

@@ -20,11 +20,11 @@ use Rattle.sheet.specs.Plan.{Point, slots, tables, tableAdditions, tableDoublin
 use Rattle.sheet.specs.Questions.{doublings}
 use Rattle.sheet.specs.Sound.{Steps, stepLines, sheetLines}
 use Rattle.sheet.specs.Spelling.{comma, lineFeed, kind, join, spell}
-use Rattle.writer.specs.Accepted.{written-fits, written-cost, written-places, written-header, written-doublings}
-use Rattle.writer.specs.Lengths.{spell-append}
-use Rattle.writer.specs.Columns.{digits-top}
+use Rattle.written.specs.Accepted.{written-fits, written-cost, written-places, written-header, written-doublings}
+use Rattle.written.specs.Lengths.{spell-append}
+use Rattle.written.specs.Columns.{digits-top}
+use Rattle.written.specs.Written.{digits, kindOf, first, second, heading, stepsDown, stepsOf, writtenLines, writtenAdditions, written}
 use Rattle.writer.specs.Parts.{columnAt, columnsBelow, lettersOf, decimalsOf, scalarsOf, headerBytes, Holds, Bounded, Ready}
-use Rattle.writer.specs.Written.{digits, kindOf, first, second, heading, stepsDown, stepsOf, writtenLines, writtenAdditions, written}
 use Rattle.sheet.specs.Rows.{weight-none, weight-more}
 
 -- ── the header ──────────────────────────────────────────────────────────────────────────────

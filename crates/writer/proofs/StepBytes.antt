@@ -21,9 +21,9 @@ use Rattle.sheet.specs.Line.{Line, table, load, add}
 use Rattle.sheet.specs.Plan.{Point, point}
 use Rattle.sheet.specs.Sound.{Moves, moveLines, stepLines}
 use Rattle.sheet.specs.Spelling.{comma, lineFeed, digit, join, spell}
+use Rattle.written.specs.Written.{unlessZero, placeSteps, addAll, movesOf, stepsDown}
+use Rattle.written.specs.Written as Written
 use Rattle.writer.specs.Parts.{signed, pointLine, stepsBytes, columnAt, columnsBelow}
-use Rattle.writer.specs.Written.{unlessZero, placeSteps, addAll, movesOf, stepsDown}
-use Rattle.writer.specs.Written as Written
 
 -- ── whether a digit is 0 ────────────────────────────────────────────────────────────────────
 

@@ -10,7 +10,7 @@ use Rattle.sheet.specs.Line.{table}
 use Rattle.sheet.specs.Plan.{point, stored, odds, multiples, tables}
 use Rattle.sheet.specs.Sound.{Window}
 use Rattle.sheet.specs.Spelling.{spell}
-use Rattle.writer.specs.Lengths.{spell-append}
+use Rattle.written.specs.Lengths.{spell-append}
 use Rattle.writer.specs.Parts.{Put, Room, signed, pointLine, alone, oddLines, windowBytes}
 use Rattle.writer.proofs.Puts.{Progress, begun, advance, finished, progress-same, progress-room, room-first}
 use Rattle.writer.proofs.Signs.{signed-plain}

@@ -11,9 +11,9 @@ use Rattle.digits.specs.Scalar.{scalar}
 use Rattle.recode.specs.Call.{sized}
 use Rattle.sheet.specs.declared.Plan.{Plan}
 use Rattle.sheet.specs.declared.Plan.the-variants.{J, I}
+use Rattle.written.specs.Written.{written, writtenAdditions}
 use Rattle.writer.specs.declared.answer.Sheet.{Sheet}
 use Rattle.writer.specs.declared.answer.Sheet.the-variants.{BadScalar, BadWindow, NoRoom, BadLimit, Written}
-use Rattle.writer.specs.Written.{written, writtenAdditions}
 
 -- the number of the question missed, 0 where none is
 abbrev pub number : Sheet → ℕ

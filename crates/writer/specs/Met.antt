@@ -13,7 +13,7 @@ use Rattle.digits.specs.Scalar.{scalar}
 use Rattle.recode.specs.Call.{sized}
 use Rattle.sheet.specs.declared.Plan.the-variants.{I}
 use Rattle.sheet.specs.Planned.{window-of}
-use Rattle.writer.specs.Valid.{Valid, forI}
+use Rattle.written.specs.Valid.{Valid, forI}
 
 pub both : (a b : Bool) → (a && b) ≡ true → (a ≡ true) × (b ≡ true)
 both a b e = and-eq-true-iff a b .0 e

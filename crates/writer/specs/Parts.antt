@@ -17,8 +17,8 @@ use Rattle.sheet.specs.Line.{Header, table}
 use Rattle.sheet.specs.Numeral.{figure, numeral}
 use Rattle.sheet.specs.Plan.{Point, point, stored, odds, multiples}
 use Rattle.sheet.specs.Spelling.{comma, lineFeed, digit, kind, spell}
-use Rattle.writer.specs.Valid.{Valid}
-use Rattle.writer.specs.Written.{digits}
+use Rattle.written.specs.Valid.{Valid}
+use Rattle.written.specs.Written.{digits}
 
 -- the bytes were put at a place, and `next` is the place behind them
 pub record Put (before after : List ℕ) (at next : ℕ) (bytes : List ℕ) : Type 0 where

@@ -17,14 +17,14 @@ use Rattle.sheet.specs.declared.Plan.{Plan}
 use Rattle.sheet.specs.declared.Plan.the-variants.{J, I}
 use Rattle.sheet.specs.Answer.{Accepted, sheetSlots, sheetAdditions}
 use Rattle.sheet.specs.Plan.{slots}
+use Rattle.written.specs.Accepted.{written-accepted, written-slots, written-counted}
+use Rattle.written.specs.Valid.{Valid, forJ}
+use Rattle.written.specs.Written.{written}
 use Rattle.writer.specs.declared.answer.Sheet.{Sheet}
 use Rattle.writer.specs.declared.answer.Sheet.the-variants.{BadScalar, BadWindow, NoRoom, Written}
-use Rattle.writer.specs.Accepted.{written-accepted, written-slots, written-counted}
 use Rattle.writer.specs.Call.{roomy, wrote, left, jAnswer, jBuffer, iAnswer, iBuffer}
 use Rattle.writer.specs.Call as Call
 use Rattle.writer.specs.Met.{both, bounded, windows-valid}
-use Rattle.writer.specs.Valid.{Valid, forJ}
-use Rattle.writer.specs.Written.{written}
 
 -- the sheet s of a plan is accepted for k and l, and a are its additions
 pub record Promised (p : Plan) (k l a : ℕ) (s : List ℕ) : Type 0 where

@@ -2,8 +2,8 @@ ghost use mathlib.Core.Path.{_≡_};
 ghost use mathlib.Core.List.{_∷_, []};
 ghost use Rattle.digits.specs.Scalar;
 ghost use Rattle.sheet.specs.Spelling;
+ghost use Rattle.written.specs.Written.{kindOf, heading};
 ghost use Rattle.writer.specs.Parts.{Put, Room, field, lettersOf, decimalsOf, scalarsOf, headerBytes};
-ghost use Rattle.writer.specs.Written.{kindOf, heading};
 use sheet::Plan;
 
 // The letter of a plan.

@@ -11,8 +11,8 @@ ghost use Rattle.sheet.specs.Plan.{point};
 ghost use Rattle.sheet.specs.Rows.{weigh};
 ghost use Rattle.sheet.specs.Sound.{moveLines, stepLines};
 ghost use Rattle.sheet.specs.Spelling.{lineFeed, spell};
+ghost use Rattle.written.specs.Written.{unlessZero, placeSteps, movesOf, stepsDown};
 ghost use Rattle.writer.specs.Parts.{Put, Room, signed, stepsBytes, columnAt, columnsBelow};
-ghost use Rattle.writer.specs.Written.{unlessZero, placeSteps, movesOf, stepsDown};
 use crate::write::PLACES;
 use sheet::Plan;
 

@@ -4,7 +4,7 @@ ghost use Rattle.sheet.specs.Line.{table};
 ghost use Rattle.sheet.specs.Plan.{stored, tables};
 ghost use Rattle.sheet.specs.Sound.{Window};
 ghost use Rattle.sheet.specs.Spelling.{spell};
-ghost use Rattle.writer.specs.Valid.{Valid};
+ghost use Rattle.written.specs.Valid.{Valid};
 ghost use Rattle.writer.specs.Parts.{Put, Room, pointLine, alone, oddLines, windowBytes};
 use sheet::Plan;
 

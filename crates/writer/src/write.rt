@@ -8,8 +8,8 @@ ghost use Rattle.digits.specs.Scalar.{scalar};
 ghost use Rattle.digits.specs.Two.{blank};
 ghost use Rattle.sheet.specs.Sound.{stepLines};
 ghost use Rattle.sheet.specs.Spelling.{spell};
+ghost use Rattle.written.specs.Written.{stepsDown, written, writtenAdditions};
 ghost use Rattle.writer.specs.Parts.{Put, Room, columnAt, columnsBelow, Ready};
-ghost use Rattle.writer.specs.Written.{stepsDown, written, writtenAdditions};
 use crate::answer::Sheet;
 use sheet::Plan;
 

@@ -2,7 +2,7 @@
 use mathlib.Core.Path.{sym, ap}
 use Rattle.sheet.specs.declared.Plan.{Plan}
 use Rattle.sheet.specs.Spelling.{kind}
-use Rattle.writer.specs.Written.{kindOf}
+use Rattle.written.specs.Written.{kindOf}
 use borrow.Author.Needs.{needs}
 use Rattle.writer.proofs.header.letter_of.Statement.{statement}
 use Rattle.writer.proofs.header.letter_of.Tie as tie

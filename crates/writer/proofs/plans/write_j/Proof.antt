@@ -3,7 +3,7 @@ use mathlib.Core.Path.{refl}
 use mathlib.Core.Bool.{and-eq-true-iff}
 use Rattle.digits.specs.Limits.{card}
 use Rattle.recode.specs.Call.{sized}
-use Rattle.writer.specs.Valid.{forJ}
+use Rattle.written.specs.Valid.{forJ}
 use Rattle.writer.proofs.DigitRows.{in-bounds, joint-holds, joint-places}
 use borrow.Author.Needs.{needs}
 use Rattle.writer.proofs.plans.write_j.Statement.{statement}

@@ -4,8 +4,8 @@ use Prim.Native.Nat.{ℕ, suc, _-_}
 use native.Mathlib.Omega.{arith}
 use Rattle.sheet.specs.Sound.{stepLines}
 use Rattle.sheet.specs.Spelling.{spell}
+use Rattle.written.specs.Written.{stepsDown}
 use Rattle.writer.specs.Parts.{Room, columnsBelow}
-use Rattle.writer.specs.Written.{stepsDown}
 use Rattle.writer.proofs.StepBytes.{no-places}
 use Rattle.writer.proofs.Puts.{put-none, put-same}
 use borrow.Author.Needs.{needs}

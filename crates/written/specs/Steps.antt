@@ -23,8 +23,8 @@ use Rattle.sheet.specs.Line.{Line, load, end}
 use Rattle.sheet.specs.Plan.{Point, point}
 use Rattle.sheet.specs.Questions.{additions, doublings, plus}
 use Rattle.sheet.specs.Sound.{Moves, Steps, loaded, moveLines, stepLines, moveDoubles, stepDoubles, Turn, forBoth, forP, forQ, AllowedMoves, stops, doubles, adds, Allowed, rests, loads}
-use Rattle.writer.specs.Written.{unlessZero, placeSteps, addAll, movesOf, stepsDown, stepsOf}
-use Rattle.writer.specs.Written as Written
+use Rattle.written.specs.Written.{unlessZero, placeSteps, addAll, movesOf, stepsDown, stepsOf}
+use Rattle.written.specs.Written as Written
 
 -- ── the steps of a place ────────────────────────────────────────────────────────────────────
 

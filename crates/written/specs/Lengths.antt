@@ -22,7 +22,7 @@ use Rattle.sheet.specs.Questions.{additions}
 use Rattle.sheet.specs.Sound.{Moves, Steps, moveLines, stepLines, moveDoubles, stepDoubles, sheetLines, Window, Turn, forBoth, forP, forQ, AllowedMoves, stops, doubles, adds, Allowed, rests, loads}
 use Rattle.sheet.specs.SpelledRead.{ShortPoint, ShortHeader, Short}
 use Rattle.sheet.specs.Spelling.{comma, lineFeed, digit, kind, fields, join, spell}
-use Rattle.writer.specs.Valid.{Valid, forJ, forI}
+use Rattle.written.specs.Valid.{Valid, forJ, forI}
 
 -- lines that follow one another are spelled so
 pub spell-append : (xs ys : List Line) → spell (xs ++ ys) ≡ spell xs ++ spell ys

@@ -28,11 +28,11 @@ use Rattle.sheet.specs.Sound as Sounds
 use Rattle.sheet.specs.SpelledRead.{ShortHeader, spelled-read}
 use Rattle.sheet.specs.Spelling.{lines}
 use Rattle.sheet.specs.TableCost.{doublings-append, tables-doublings}
-use Rattle.writer.specs.Written.{digits, stepsOf, kindOf, first, second, heading, linesWith, writtenLines, writtenAdditions, written}
-use Rattle.writer.specs.Columns.{digits-fit, digits-value, digits-top, digits-length}
-use Rattle.writer.specs.Valid.{Valid, forJ, forI}
-use Rattle.writer.specs.Steps.{Stepped, steps-of}
-use Rattle.writer.specs.Lengths.{sheet-short, sheet-bytes}
+use Rattle.written.specs.Written.{digits, stepsOf, kindOf, first, second, heading, linesWith, writtenLines, writtenAdditions, written}
+use Rattle.written.specs.Columns.{digits-fit, digits-value, digits-top, digits-length}
+use Rattle.written.specs.Valid.{Valid, forJ, forI}
+use Rattle.written.specs.Steps.{Stepped, steps-of}
+use Rattle.written.specs.Lengths.{sheet-short, sheet-bytes}
 
 -- limits that are enough for scalars of b bits
 pub record Enough (limits : Limits) (b : ℕ) : Type 0 where

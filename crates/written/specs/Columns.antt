@@ -25,8 +25,8 @@ use Rattle.forms.specs.RowValue.{row-digits, row-value, row-top}
 use Rattle.sheet.specs.declared.Plan.{Plan}
 use Rattle.sheet.specs.Digits.{rowP, rowQ, Fits, weight}
 use Rattle.sheet.specs.Plan.{point}
-use Rattle.writer.specs.Valid.{Valid, forJ, forI, window-positive}
-use Rattle.writer.specs.Written.{paired, digits}
+use Rattle.written.specs.Valid.{Valid, forJ, forI, window-positive}
+use Rattle.written.specs.Written.{paired, digits}
 
 -- ── two rows over the same places ───────────────────────────────────────────────────────────
 

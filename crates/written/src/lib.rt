@@ -1,0 +1,1 @@
+// The sheet written for a plan: definitions and theorems, in specs/.
