@@ -6,10 +6,10 @@ use Prim.Native.Nat.{ℕ, _≤_, _<_, _^_}
 use lib.Dec.{leb, ltb}
 use lib.ListN.{length}
 use borrow.Author.Tests.{le-leb, lt-leb, leb-true, ltb-true}
+use Rattle.digits.specs.Sized.{both, bounded}
 use Rattle.digits.specs.Bytes.{Bytes}
 use Rattle.digits.specs.Limits.{Limits, card}
-use Rattle.digits.specs.Scalar.{scalar}
-use Rattle.recode.specs.Call.{sized}
+use Rattle.digits.specs.Scalar.{scalar, sized}
 use Rattle.sheet.specs.declared.Plan.{Plan}
 use Rattle.sheet.specs.declared.Plan.the-variants.{J, I}
 use Rattle.sheet.specs.Plan.{mostSlots}
@@ -19,17 +19,10 @@ use Rattle.written.specs.Written.{written}
 use Rattle.writer.specs.declared.answer.Sheet.{Sheet}
 use Rattle.writer.specs.declared.answer.Sheet.the-variants.{BadScalar, NoRoom, BadLimit}
 use Rattle.writer.specs.Call.{roomy, wrote, left, jAnswer, jBuffer, iAnswer, iBuffer}
-use Rattle.writer.specs.Met.{both, bounded}
 use Rattle.chooser.specs.Call.{planAnswer, planBuffer, cheapestAnswer, cheapestBuffer, Promised}
 use Rattle.chooser.specs.Cheapest.{cheapestPlan, cheapest}
 use Rattle.chooser.specs.Least.{plan-within}
 use Rattle.chooser.specs.Promise.{cheapest-promised}
-
--- a scalar of 1 to 66 bytes
-pub some-bytes : (s : List ℕ) → sized card s ≡ true → (1 ≤ length s) × (length s ≤ 66)
-some-bytes s e =
-    let z = and-eq-true-iff (ltb 0 (length s)) (leb (length s) 66) .0 e in
-    (ltb-true 0 (length s) (z .0), leb-true (length s) 66 (z .1))
 
 module _ (k l buffer : List ℕ) (limit : ℕ) where
   -- what the call returns and leaves, where its answer is a

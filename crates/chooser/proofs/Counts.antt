@@ -16,6 +16,7 @@ use Rattle.digits.specs.Two as Two
 use Rattle.digits.specs.Two.{Column, P, Q, two}
 use Rattle.digits.specs.Limits.{card}
 use Rattle.digits.specs.Scalar.{scalar}
+use Rattle.digits.specs.Sized.{bytes-sized, both-sized}
 use Rattle.forms.specs.Joint.{joint}
 use Rattle.forms.specs.JointValue.{joint-small}
 use Rattle.forms.specs.Promise.{row-digits}
@@ -114,7 +115,7 @@ columns-weighed cs k l s =
 pub row-call : (s : List ℕ) (m : ℕ) (buffer : List ℕ) → 1 ≤ length s → length s ≤ 66 → m % 2 ≡ 1 → m ≤ 31 → 8 * length s + 1 ≤ length buffer
     → nonzero (rowBuffer card s m buffer) ≡ Rows.weight (row m (pos (scalar s)))
 row-call s m buffer h l o w r =
-    ap nonzero (sym (RowAnswers.written card s m buffer (omega arith) l (omega arith) w (length (row m (pos (scalar s)))) (filled (row m (pos (scalar s))) buffer) (omega arith) refl refl .1))
+    ap nonzero (sym (RowAnswers.written card s m buffer (bytes-sized card s (h, l)) (omega arith) w (length (row m (pos (scalar s)))) (filled (row m (pos (scalar s))) buffer) (omega arith) refl refl .1))
     ∙ row-weighed (row m (pos (scalar s))) buffer w (row-digits m (pos (scalar s)) (omega arith))
 
 -- and the columns that a joint call leaves
@@ -123,7 +124,7 @@ pub joint-call : (s t k l : List ℕ) → 1 ≤ length s → length s ≤ 66 →
 joint-call s t k l h g i j x y =
     let cs = joint (pos (scalar s)) (pos (scalar t)) in
     let w =
-    JointAnswers.written card s t k l (JointAnswers.good-size card s (omega arith) g) (JointAnswers.good-size card t (omega arith) j) (omega arith) (length (joint (pos (scalar s)) (pos (scalar t))))
+    JointAnswers.written card s t k l (both-sized card s t (bytes-sized card s (h, g)) (bytes-sized card t (i, j))) (omega arith) (length (joint (pos (scalar s)) (pos (scalar t))))
     (filled (Columns.row two P (joint (pos (scalar s)) (pos (scalar t)))) k) (filled (Columns.row two Q (joint (pos (scalar s)) (pos (scalar t)))) l) (omega arith) refl refl refl
     in
     ap₂ nonzeroPairs (sym (w .1 .0)) (sym (w .1 .1)) ∙ columns-weighed cs k l (joint-small (pos (scalar s)) (pos (scalar t)))

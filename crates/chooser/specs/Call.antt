@@ -6,8 +6,7 @@ use mathlib.Core.List.{List, _++_}
 use Prim.Native.Nat.{ℕ, _≤_}
 use lib.ListN.{length, take, drop}
 use Rattle.digits.specs.Limits.{Limits, card}
-use Rattle.digits.specs.Scalar.{scalar}
-use Rattle.recode.specs.Call.{sized}
+use Rattle.digits.specs.Scalar.{scalar, sized}
 use Rattle.sheet.specs.declared.Plan.{Plan}
 use Rattle.sheet.specs.declared.Plan.the-variants.{J, I}
 use Rattle.sheet.specs.Answer.{Accepted, heading, sheetSlots, sheetAdditions}

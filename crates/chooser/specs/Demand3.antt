@@ -11,12 +11,12 @@ use lib.ListN.{length}
 use Rattle.digits.specs.Column as Columns
 use Rattle.digits.specs.Limits.{card}
 use Rattle.digits.specs.Row.{value}
-use Rattle.digits.specs.Scalar.{scalar}
+use Rattle.digits.specs.Scalar.{scalar, sized}
 use Rattle.digits.specs.Two.{Column, Two, P, Q, two}
 use Rattle.forms.specs.Joint.{Keeps, Topped, joint}
 use Rattle.forms.specs.Promise as Promise
 use Rattle.recode.specs.Call as Call
-use Rattle.recode.specs.Call.{sized, roomy, number, filled, left, jointAnswer, jointBuffer}
+use Rattle.recode.specs.Call.{roomy, number, filled, left, jointAnswer, jointBuffer}
 use Rattle.recode.specs.declared.answer.Recoded.{Recoded}
 use Rattle.recode.specs.declared.answer.Recoded.the-variants.{BadScalar, NoRoom, Written}
 use Rattle.sheet.specs.declared.Plan.{Plan}

@@ -23,7 +23,7 @@ pub fn cheapest(k: &[u8], l: &[u8], limit: u32, sheet: &mut [u8]) -> Sheet
     ensures buffer { λ _. ⌜ now (sheet .exit) ≡ cheapestBuffer card (now (k .entry)) (now (l .entry)) limit (now (sheet .entry)) ⌝ }
     ensures promised { λ r. ⌜ Promised r (now (sheet .exit)) (scalar (now (k .entry))) (scalar (now (l .entry))) limit ⌝ }
 {
-    if writer::are_scalars(k, l) {
+    if digits::are_scalars(k, l) {
         if Plan::MOST_SLOTS < limit {
             return Sheet::BadLimit;
         }

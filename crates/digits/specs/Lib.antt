@@ -11,3 +11,4 @@ pub mod RowAdding
 pub mod Column
 pub mod Adding
 pub mod Two
+pub mod Sized

@@ -1,7 +1,11 @@
 -- Scalars: unsigned numbers in bytes, the most significant first, and their bit length.
 use mathlib.Core.Path.{_≡_, refl, ap}
+use mathlib.Core.Bool.{Bool, _&&_}
 use mathlib.Core.List.{List, [], _∷_, reverse}
 use Prim.Native.Nat.{ℕ, zero, suc, _+_, _*_, _/_, _<_}
+use lib.Dec.{ltb, leb}
+use lib.ListN.{length}
+use Rattle.digits.specs.Limits.{Limits}
 
 -- the number of a list of bytes, the least significant first
 unfoldable pub little : List ℕ → ℕ
@@ -11,6 +15,10 @@ little (b ∷ bs) = b + 256 * little bs
 -- the scalar of a list of bytes
 unfoldable pub scalar : List ℕ → ℕ
 scalar s = little (reverse s)
+
+-- question 1: a scalar has 1 to 66 bytes
+abbrev pub sized : Limits → List ℕ → Bool
+sized limits s = ltb 0 (length s) && leb (length s) (limits .bytes)
 
 -- the bit length of n: the place of its top one bit plus 1, and 0 for zero. Halving n takes one off it; the first number
 -- bounds how often

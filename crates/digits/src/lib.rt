@@ -1,7 +1,10 @@
-// Digits and scalars: the byte of a digit, and the bit length of a scalar.
+// Digits and scalars: the byte of a digit, the size of a scalar and its bit length.
 mod byte;
 mod length;
+mod scalar;
 
 pub use byte::byte_of;
 pub use length::BitLength;
 pub use length::bit_length;
+pub use scalar::are_scalars;
+pub use scalar::is_scalar;

@@ -7,15 +7,16 @@ use Prim.Native.Nat.{ℕ, _+_, _*_, _≤_, max}
 use native.Mathlib.Omega.{arith}
 use lib.IntN.{pos}
 use lib.ListN.{length}
+use Rattle.digits.specs.Sized.{both, some-bytes, bounded}
 use Rattle.digits.specs.Bytes.{Bytes, length-bytes}
 use Rattle.digits.specs.Limits.{card}
 use Rattle.digits.specs.Row.{isWindow}
-use Rattle.digits.specs.Scalar.{scalar}
+use Rattle.digits.specs.Scalar.{scalar, sized}
 use Rattle.forms.specs.Joint.{joint}
 use Rattle.forms.specs.Promise.{row-length, joint-length}
 use Rattle.forms.specs.Row.{row}
 use Rattle.recode.specs.Call as Recoding
-use Rattle.recode.specs.Call.{sized, rowAnswer, jointAnswer}
+use Rattle.recode.specs.Call.{rowAnswer, jointAnswer}
 use Rattle.recode.specs.declared.answer.Recoded.the-variants as recoded
 use Rattle.recode.specs.declared.answer.Recoded.{Recoded}
 use Rattle.sheet.specs.Plan.{isLimit}
@@ -26,7 +27,7 @@ use Rattle.written.specs.Accepted.{written-fits}
 use Rattle.written.specs.Valid.{Valid, forJ}
 use Rattle.writer.specs.Call as Writing
 use Rattle.writer.specs.Call.{wrote, jAnswer, iAnswer}
-use Rattle.writer.specs.Met.{both, few-bytes, bounded, windows-valid}
+use Rattle.writer.specs.Met.{windows-valid}
 use Rattle.writer.specs.declared.answer.Sheet.the-variants as sheet
 use Rattle.writer.specs.declared.answer.Sheet.{Sheet}
 use Rattle.chooser.specs.Call.{cheapestAnswer}
@@ -42,7 +43,7 @@ chosen f n false x y h g = g
 
 row-places : (s : List ℕ) (m : ℕ) → Bytes s → sized card s ≡ true → isWindow m ≡ true → length (row m (pos (scalar s))) ≤ 8 * card .bytes + 1
 row-places s m bytes e w =
-    omega (arith, row-length m (scalar s) (omega (arith, window-of m w .odd)), length-bytes s bytes, few-bytes s e)
+    omega (arith, row-length m (scalar s) (omega (arith, window-of m w .odd)), length-bytes s bytes, some-bytes card s e .1)
 
 joint-places : (s t : List ℕ) → Bytes s → Bytes t → (sized card s && sized card t) ≡ true
     → length (joint (pos (scalar s)) (pos (scalar t))) ≤ 8 * card .bytes + 1
@@ -53,8 +54,8 @@ joint-places s t s-bytes t-bytes e =
       joint-length (scalar s) (scalar t),
       length-bytes s s-bytes,
       length-bytes t t-bytes,
-      few-bytes s a,
-      few-bytes t b,
+      some-bytes card s a .1,
+      some-bytes card t b .1,
     )
 
 -- whatever a row call is asked, the length that it answers

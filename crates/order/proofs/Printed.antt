@@ -8,9 +8,9 @@ use native.Mathlib.Omega.{arith}
 use borrow.Author.Tests.{le-leb, lt-leb, lt-ltb}
 use lib.ListN.{length, getD, set, take, drop, length-set}
 use lib.Seq.{length-take-le}
+use Rattle.digits.specs.Sized.{bytes-sized}
 use Rattle.digits.specs.Limits.{card}
-use Rattle.digits.specs.Scalar.{scalar}
-use Rattle.recode.specs.Call.{sized}
+use Rattle.digits.specs.Scalar.{scalar, sized}
 use Rattle.sheet.specs.Numeral.{numeral, followed}
 use Rattle.sheet.specs.Plan.{isLimit}
 use Rattle.sheet.specs.Spelling.{comma, cut, lineFeed}
@@ -56,12 +56,9 @@ pub taken : (n : ℕ) (s : List ℕ) → (1 ≤ n) × (n ≤ 66) → length s �
 taken n s h e = rw (length-take-le n s (omega (arith, h .1))) h
 
 module _ {k l buffer out : List ℕ} {slots x y : ℕ} {a : Sheet} (c : Answers k l buffer slots x y a out) where
-  sizes : (s : List ℕ) → (1 ≤ length s) × (length s ≤ 66) → sized card s ≡ true
-  sizes s h = rw (lt-ltb 0 (length s) (h .0), le-leb (length s) 66 (h .1))
-
   asked : (b : Bool) → isLimit slots ≡ b → a ≡ cond b (wrote (cheapestPlan (scalar k) (scalar l) slots) k l) BadLimit
   unfolding cheapestAnswer
-  asked b d = c .answer ∙ rw (sizes k (c .k-size), sizes l (c .l-size), le-leb 16384 (length buffer) (c .room), d)
+  asked b d = c .answer ∙ rw (bytes-sized card k (c .k-size), bytes-sized card l (c .l-size), le-leb 16384 (length buffer) (c .room), d)
 
   left-as : {b : Sheet} → a ≡ b → out ≡ left b (cheapest (scalar k) (scalar l) slots) buffer
   unfolding cheapestBuffer

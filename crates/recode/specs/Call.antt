@@ -2,14 +2,14 @@
 use mathlib.Core.Bool.{Bool, true, false, _&&_, cond}
 use mathlib.Core.List.{List, [], _∷_, _++_, map}
 use Prim.Native.Nat.{ℕ, _+_, _-_, _*_, max}
-use lib.Dec.{ltb, leb}
+use lib.Dec.{leb}
 use lib.ListN as ListN
 use lib.ListN.{replicate}
 use lib.IntN.{ℤ, pos}
 use Rattle.digits.specs.Byte.{byteOf}
 use Rattle.digits.specs.Limits.{Limits}
 use Rattle.digits.specs.Row.{isWindow}
-use Rattle.digits.specs.Scalar.{scalar}
+use Rattle.digits.specs.Scalar.{scalar, sized}
 use Rattle.recode.specs.declared.answer.Recoded.{Recoded}
 use Rattle.recode.specs.declared.answer.Recoded.the-variants.{BadScalar, BadWindow, NoRoom, Written}
 use Rattle.digits.specs.Column
@@ -31,15 +31,12 @@ length BadWindow = 0
 length NoRoom = 0
 length (Written n) = n
 
--- 1. has the scalar 1 to 66 bytes?
-abbrev pub sized : Limits → List ℕ → Bool
-sized limits s = ltb 0 (ListN.length s) && leb (ListN.length s) (limits .bytes)
-
 -- 3. has the digit buffer at least 8 × bytes + 1 places?
 abbrev pub roomy : ℕ → ℕ → Bool
 roomy bytes places = leb (8 * bytes + 1) places
 
--- the answer of a row call: the first question missed, or the row's length; question 2 is whether m is a window
+-- the answer of a row call: the first question missed, or the row's length; question 1 is whether the scalar is sized, and question 2
+-- whether m is a window
 unfoldable pub rowAnswer : Limits → List ℕ → ℕ → ℕ → Recoded
 rowAnswer limits s m places =
     cond (sized limits s)

@@ -1,21 +1,19 @@
 -- The answer and the buffers of a joint call, by the first question missed, and where all are met.
 use mathlib.Core.Path.{_≡_, refl, sym, ap, _∙_}
-use mathlib.Core.Logic.{_≢_}
 use mathlib.Core.Bool.{Bool, true, false, _&&_}
 use mathlib.Core.List.{List}
 use Prim.Native.Nat.{ℕ, suc, _+_, _*_, _≤_, _<_, max}
-use native.Mathlib.Omega.{arith}
-use borrow.Author.Tests.{lt-ltb, le-ltb, le-leb, lt-leb}
+use borrow.Author.Tests.{le-leb, lt-leb}
 use lib.IntN.{pos}
 use lib.ListN as ListN
 use Rattle.digits.specs.Column as Column
 use Rattle.digits.specs.Limits.{Limits}
-use Rattle.digits.specs.Scalar.{scalar}
+use Rattle.digits.specs.Scalar.{scalar, sized}
 use Rattle.digits.specs.Two.{Two, P, Q, of, two}
 use Rattle.forms.specs.Joint.{joint}
 use Rattle.recode.specs.declared.answer.Recoded.{Recoded}
 use Rattle.recode.specs.declared.answer.Recoded.the-variants.{BadScalar, BadWindow, NoRoom, Written}
-use Rattle.recode.specs.Call.{jointAnswer, jointBuffer, left, filled, sized, roomy}
+use Rattle.recode.specs.Call.{jointAnswer, jointBuffer, left, filled, roomy}
 
 module _ (limits : Limits) (s t k l : List ℕ) where
   -- what a call returns and leaves, where its answer is a
@@ -35,46 +33,31 @@ module _ (limits : Limits) (s t k l : List ℕ) where
     ),
   )
 
--- question 1, of one scalar
-pub good-size : (limits : Limits) (s : List ℕ) → ListN.length s ≢ 0 → ListN.length s ≤ limits .bytes → sized limits s ≡ true
-good-size limits s h l = rw (lt-ltb 0 (ListN.length s) (omega arith), le-leb (ListN.length s) (limits .bytes) l)
-
-pub none-size : (limits : Limits) (s : List ℕ) → ListN.length s ≡ 0 → sized limits s ≡ false
-none-size limits s h = rw (le-ltb 0 (ListN.length s) (omega arith))
-
-pub many-size : (limits : Limits) (s : List ℕ) → limits .bytes < ListN.length s → sized limits s ≡ false
-many-size limits s h = rw (lt-ltb 0 (ListN.length s) (omega arith), lt-leb (ListN.length s) (limits .bytes) h)
-
 module _ (limits : Limits) (s t k l : List ℕ) where
-  pub bad-first : sized limits s ≡ false → Returned limits s t k l BadScalar k l
+  pub bad-scalar : (sized limits s && sized limits t) ≡ false → Returned limits s t k l BadScalar k l
   unfolding jointAnswer
-  bad-first e = returned limits s t k l BadScalar (rw e)
+  bad-scalar e = returned limits s t k l BadScalar (rw e)
 
-  module _ (first : sized limits s ≡ true) where
-    pub bad-second : sized limits t ≡ false → Returned limits s t k l BadScalar k l
+  module _ (sizes : (sized limits s && sized limits t) ≡ true) where
+    pub no-first : ListN.length k < 8 * max (ListN.length s) (ListN.length t) + 1 → Returned limits s t k l NoRoom k l
     unfolding jointAnswer
-    bad-second e = returned limits s t k l BadScalar (rw (first, e))
+    no-first h =
+        returned limits s t k l NoRoom (rw (sizes, lt-leb (8 * max (ListN.length s) (ListN.length t) + 1) (ListN.length k) h))
 
-    module _ (second : sized limits t ≡ true) where
-      pub no-first : ListN.length k < 8 * max (ListN.length s) (ListN.length t) + 1 → Returned limits s t k l NoRoom k l
+    module _ (room : 8 * max (ListN.length s) (ListN.length t) + 1 ≤ ListN.length k) where
+      pub no-second : ListN.length l < 8 * max (ListN.length s) (ListN.length t) + 1 → Returned limits s t k l NoRoom k l
       unfolding jointAnswer
-      no-first h =
-          returned limits s t k l NoRoom (rw (first, second, lt-leb (8 * max (ListN.length s) (ListN.length t) + 1) (ListN.length k) h))
+      no-second h =
+          returned limits s t k l NoRoom
+          (rw (sizes, le-leb (8 * max (ListN.length s) (ListN.length t) + 1) (ListN.length k) room, lt-leb (8 * max (ListN.length s) (ListN.length t) + 1) (ListN.length l) h))
 
-      module _ (room : 8 * max (ListN.length s) (ListN.length t) + 1 ≤ ListN.length k) where
-        pub no-second : ListN.length l < 8 * max (ListN.length s) (ListN.length t) + 1 → Returned limits s t k l NoRoom k l
-        unfolding jointAnswer
-        no-second h =
-            returned limits s t k l NoRoom
-            (rw (first, second, le-leb (8 * max (ListN.length s) (ListN.length t) + 1) (ListN.length k) room, lt-leb (8 * max (ListN.length s) (ListN.length t) + 1) (ListN.length l) h))
-
-        pub written : (n : ℕ) (k′ l′ : List ℕ) → 8 * max (ListN.length s) (ListN.length t) + 1 ≤ ListN.length l → n ≡ ListN.length (joint (pos (scalar s)) (pos (scalar t)))
-            → k′ ≡ filled (Column.row two P (joint (pos (scalar s)) (pos (scalar t)))) k → l′ ≡ filled (Column.row two Q (joint (pos (scalar s)) (pos (scalar t)))) l
-            → Returned limits s t k l (Written n) k′ l′
-        unfolding jointAnswer
-        written n k′ l′ h e f g =
-            let r =
-            returned limits s t k l (Written (ListN.length (joint (pos (scalar s)) (pos (scalar t)))))
-            (rw (first, second, le-leb (8 * max (ListN.length s) (ListN.length t) + 1) (ListN.length k) room, le-leb (8 * max (ListN.length s) (ListN.length t) + 1) (ListN.length l) h))
-            in
-            (ap Written e ∙ r .0, (f ∙ r .1 .0, g ∙ r .1 .1))
+      pub written : (n : ℕ) (k′ l′ : List ℕ) → 8 * max (ListN.length s) (ListN.length t) + 1 ≤ ListN.length l → n ≡ ListN.length (joint (pos (scalar s)) (pos (scalar t)))
+          → k′ ≡ filled (Column.row two P (joint (pos (scalar s)) (pos (scalar t)))) k → l′ ≡ filled (Column.row two Q (joint (pos (scalar s)) (pos (scalar t)))) l
+          → Returned limits s t k l (Written n) k′ l′
+      unfolding jointAnswer
+      written n k′ l′ h e f g =
+          let r =
+          returned limits s t k l (Written (ListN.length (joint (pos (scalar s)) (pos (scalar t)))))
+          (rw (sizes, le-leb (8 * max (ListN.length s) (ListN.length t) + 1) (ListN.length k) room, le-leb (8 * max (ListN.length s) (ListN.length t) + 1) (ListN.length l) h))
+          in
+          (ap Written e ∙ r .0, (f ∙ r .1 .0, g ∙ r .1 .1))

@@ -120,24 +120,15 @@ pub fn joint(k: &[u8], l: &[u8], k_digits: &mut [u8], l_digits: &mut [u8]) -> Re
     ensures first { λ _. ⌜ now («k_digits» .exit) ≡ jointBuffer card P (now (k .entry)) (now (l .entry)) (now («k_digits» .entry)) (now («l_digits» .entry)) ⌝ }
     ensures second { λ _. ⌜ now («l_digits» .exit) ≡ jointBuffer card Q (now (k .entry)) (now (l .entry)) (now («k_digits» .entry)) (now («l_digits» .entry)) ⌝ }
 {
-    if k.len() == 0 {
-        return Recoded::BadScalar;
+    if digits::are_scalars(k, l) {
+        let room = 8 * larger(k.len(), l.len()) + 1;
+        if k_digits.len() < room {
+            return Recoded::NoRoom;
+        }
+        if l_digits.len() < room {
+            return Recoded::NoRoom;
+        }
+        return Recoded::Written(write_joint(k, l, k_digits, l_digits));
     }
-    if 66 < k.len() {
-        return Recoded::BadScalar;
-    }
-    if l.len() == 0 {
-        return Recoded::BadScalar;
-    }
-    if 66 < l.len() {
-        return Recoded::BadScalar;
-    }
-    let room = 8 * larger(k.len(), l.len()) + 1;
-    if k_digits.len() < room {
-        return Recoded::NoRoom;
-    }
-    if l_digits.len() < room {
-        return Recoded::NoRoom;
-    }
-    Recoded::Written(write_joint(k, l, k_digits, l_digits))
+    Recoded::BadScalar
 }

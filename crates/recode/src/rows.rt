@@ -84,20 +84,17 @@ pub fn row(scalar: &[u8], m: u32, digits: &mut [u8]) -> Recoded
     ensures answer { λ r. ⌜ r ≡ rowAnswer card (now (scalar .entry)) m (length (now (digits .entry))) ⌝ }
     ensures buffer { λ _. ⌜ now (digits .exit) ≡ rowBuffer card (now (scalar .entry)) m (now (digits .entry)) ⌝ }
 {
-    if scalar.len() == 0 {
-        return Recoded::BadScalar;
+    if digits::is_scalar(scalar) {
+        if m % 2 == 0 {
+            return Recoded::BadWindow;
+        }
+        if 31 < m {
+            return Recoded::BadWindow;
+        }
+        if digits.len() < 8 * scalar.len() + 1 {
+            return Recoded::NoRoom;
+        }
+        return Recoded::Written(write_row(scalar, m as u16, digits));
     }
-    if 66 < scalar.len() {
-        return Recoded::BadScalar;
-    }
-    if m % 2 == 0 {
-        return Recoded::BadWindow;
-    }
-    if 31 < m {
-        return Recoded::BadWindow;
-    }
-    if digits.len() < 8 * scalar.len() + 1 {
-        return Recoded::NoRoom;
-    }
-    Recoded::Written(write_row(scalar, m as u16, digits))
+    Recoded::BadScalar
 }

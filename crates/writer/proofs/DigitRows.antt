@@ -9,18 +9,19 @@ use lib.IntN.{ℤ, pos, natAbs}
 use lib.ListN as ListN
 use lib.ListN.{getD, replicate, List·getD-map}
 use borrow.Author.Tests.{le-leb}
+use Rattle.digits.specs.Sized.{both, some-bytes, bounded}
 use Rattle.digits.specs.Byte.{byteOf}
 use Rattle.digits.specs.Bytes.{Bytes}
 use Rattle.digits.specs.Column.{row, Small}
 use Rattle.digits.specs.Limits.{card}
 use Rattle.digits.specs.Row.{Digit, Over, isWindow}
-use Rattle.digits.specs.Scalar.{scalar}
+use Rattle.digits.specs.Scalar.{scalar, sized}
 use Rattle.digits.specs.Two.{Column, Two, P, Q, digit, two, blankColumn}
 use Rattle.forms.specs.Joint.{joint}
 use Rattle.forms.specs.JointValue.{joint-small}
 use Rattle.forms.specs.Row as Row
 use Rattle.forms.specs.RowValue.{row-digits}
-use Rattle.recode.specs.Call.{sized, roomy, length, filled, left, rowAnswer, rowBuffer, jointAnswer, jointBuffer}
+use Rattle.recode.specs.Call.{roomy, length, filled, left, rowAnswer, rowBuffer, jointAnswer, jointBuffer}
 use Rattle.recode.specs.declared.answer.Recoded.{Recoded}
 use Rattle.recode.specs.declared.answer.Recoded.the-variants.{Written}
 use Rattle.sheet.specs.declared.Plan.the-variants.{J, I}
@@ -30,7 +31,6 @@ use Rattle.sheet.specs.Sound.{Window}
 use Rattle.written.specs.Columns.{paired-at, paired-length}
 use Rattle.written.specs.Valid.{window-positive}
 use Rattle.written.specs.Written.{digits}
-use Rattle.writer.specs.Met.{both, few-bytes, bounded}
 use Rattle.writer.specs.Parts.{signed, Holds, Bounded}
 use Rattle.writer.proofs.Signs.{signed-byte}
 
@@ -80,7 +80,7 @@ module _ (k l : List ℕ) (sizes : (sized card k && sized card l) ≡ true) wher
   unfolding jointAnswer
   joint-answer =
       let (a, b) = both (sized card k) (sized card l) sizes in
-      let m : max (ListN.length k) (ListN.length l) ≤ 66 = omega (arith, few-bytes k a, few-bytes l b) in
+      let m : max (ListN.length k) (ListN.length l) ≤ 66 = omega (arith, some-bytes card k a .1, some-bytes card l b .1) in
       rw (a, b, room-enough (max (ListN.length k) (ListN.length l)) m)
 
   pub joint-places : {r : Recoded} {places : ℕ} → r ≡ jointAnswer card k l 529 529 → places ≡ length r → places ≡ ListN.length (digits J (scalar k) (scalar l))
@@ -127,7 +127,7 @@ over-at (d ∷ ds) (Over.more x o) (suc i) = over-at ds o i
 module _ (s : List ℕ) (m : ℕ) (size : sized card s ≡ true) (window : isWindow m ≡ true) where
   row-answer : rowAnswer card s m 529 ≡ Written (ListN.length (Row.row m (pos (scalar s))))
   unfolding rowAnswer
-  row-answer = rw (size, window, room-enough (ListN.length s) (few-bytes s size))
+  row-answer = rw (size, window, room-enough (ListN.length s) (some-bytes card s size .1))
 
   row-places : {r : Recoded} {n : ℕ} → r ≡ rowAnswer card s m 529 → n ≡ length r → n ≡ ListN.length (Row.row m (pos (scalar s)))
   row-places e f = f ∙ ap length (e ∙ row-answer)

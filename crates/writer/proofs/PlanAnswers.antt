@@ -1,37 +1,19 @@
 -- The answers and the buffers of the calls for a sheet, by the first question missed, and where all are met.
 use mathlib.Core.Path.{_≡_, sym, ap, _∙_}
-use mathlib.Core.Logic.{_≢_}
 use mathlib.Core.Bool.{Bool, true, false, _&&_}
 use mathlib.Core.List.{List, _++_}
 use Prim.Native.Nat.{ℕ, _≤_, _<_}
-use native.Mathlib.Omega.{arith}
-use lib.Dec.{leb}
 use lib.ListN as ListN
 use lib.ListN.{drop}
-use borrow.Author.Tests.{lt-ltb, le-ltb, le-leb, lt-leb}
-use Rattle.digits.specs.Limits.{Limits, card}
+use borrow.Author.Tests.{le-leb, lt-leb}
+use Rattle.digits.specs.Limits.{Limits}
 use Rattle.digits.specs.Row.{isWindow}
-use Rattle.digits.specs.Scalar.{scalar}
-use Rattle.recode.specs.Call.{sized}
+use Rattle.digits.specs.Scalar.{scalar, sized}
 use Rattle.sheet.specs.declared.Plan.the-variants.{J, I}
 use Rattle.written.specs.Written.{written}
 use Rattle.writer.specs.declared.answer.Sheet.{Sheet}
 use Rattle.writer.specs.declared.answer.Sheet.the-variants.{BadScalar, BadWindow, NoRoom}
 use Rattle.writer.specs.Call.{wrote, left, jAnswer, jBuffer, iAnswer, iBuffer}
-
--- question 1
-pub sized-none : (s : List ℕ) → ListN.length s ≡ 0 → false ≡ sized card s
-sized-none s e = rw (le-ltb 0 (ListN.length s) (omega arith))
-
-pub sized-some : (s : List ℕ) (b : Bool) → ListN.length s ≢ 0 → b ≡ leb (ListN.length s) 66 → b ≡ sized card s
-sized-some s b h e = rw (lt-ltb 0 (ListN.length s) (omega arith)) e
-
--- both of two tests
-pub and-first : (a b : Bool) → a ≡ true → b ≡ (a && b)
-and-first a b e = sym (ap (λ (x : Bool). x && b) e)
-
-pub and-not : (a b : Bool) → a ≡ false → false ≡ (a && b)
-and-not a b e = sym (ap (λ (x : Bool). x && b) e)
 
 module _ (limits : Limits) (k l buffer : List ℕ) where
   -- what the call for plan J returns and leaves, where its answer is a

@@ -7,8 +7,7 @@ use lib.ListN as ListN
 use lib.ListN.{drop}
 use Rattle.digits.specs.Limits.{Limits}
 use Rattle.digits.specs.Row.{isWindow}
-use Rattle.digits.specs.Scalar.{scalar}
-use Rattle.recode.specs.Call.{sized}
+use Rattle.digits.specs.Scalar.{scalar, sized}
 use Rattle.sheet.specs.declared.Plan.{Plan}
 use Rattle.sheet.specs.declared.Plan.the-variants.{J, I}
 use Rattle.written.specs.Written.{written, writtenAdditions}

@@ -8,11 +8,11 @@ use native.Mathlib.Omega.{arith}
 use lib.ListN as ListN
 use lib.ListN.{take, drop}
 use lib.Seq.{take-at}
+use Rattle.digits.specs.Sized.{both, bounded}
 use Rattle.digits.specs.Bytes.{Bytes}
 use Rattle.digits.specs.Limits.{card}
 use Rattle.digits.specs.Row.{isWindow}
-use Rattle.digits.specs.Scalar.{scalar}
-use Rattle.recode.specs.Call.{sized}
+use Rattle.digits.specs.Scalar.{scalar, sized}
 use Rattle.sheet.specs.declared.Plan.{Plan}
 use Rattle.sheet.specs.declared.Plan.the-variants.{J, I}
 use Rattle.sheet.specs.Answer.{Accepted, sheetSlots, sheetAdditions}
@@ -24,7 +24,7 @@ use Rattle.writer.specs.declared.answer.Sheet.{Sheet}
 use Rattle.writer.specs.declared.answer.Sheet.the-variants.{BadScalar, BadWindow, NoRoom, Written}
 use Rattle.writer.specs.Call.{roomy, wrote, left, jAnswer, jBuffer, iAnswer, iBuffer}
 use Rattle.writer.specs.Call as Call
-use Rattle.writer.specs.Met.{both, bounded, windows-valid}
+use Rattle.writer.specs.Met.{windows-valid}
 
 -- the sheet s of a plan is accepted for k and l, and a are its additions
 pub record Promised (p : Plan) (k l a : ℕ) (s : List ℕ) : Type 0 where

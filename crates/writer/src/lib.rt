@@ -9,6 +9,5 @@ mod tables;
 mod write;
 
 pub use answer::Sheet;
-pub use plans::are_scalars;
 pub use plans::plan_i;
 pub use plans::plan_j;

@@ -5,7 +5,7 @@ ghost use Prim.Native.Nat.{_≤_, max};
 ghost use lib.ListN.{length, drop};
 ghost use Rattle.digits.specs.Limits.{card};
 ghost use Rattle.digits.specs.Row.{isWindow};
-ghost use Rattle.digits.specs.Scalar.{scalar};
+ghost use Rattle.digits.specs.Scalar.{scalar, sized};
 ghost use Rattle.recode.specs.Call;
 ghost use Rattle.sheet.specs.declared.Plan.the-variants.{J, I};
 ghost use Rattle.written.specs.Written.{written};
@@ -15,9 +15,7 @@ use crate::write::PLACES;
 use recode::Recoded;
 use sheet::Plan;
 
-// The most bytes of a scalar, and the bytes of a sheet buffer.
-const BYTES: usize = 66;
-
+// The bytes of a sheet buffer.
 const SHEET: usize = 16384;
 
 // The sheet of plan J.
@@ -25,7 +23,7 @@ pub fn plan_j(k: &[u8], l: &[u8], sheet: &mut [u8]) -> Sheet
     ensures answer { λ r. ⌜ r ≡ jAnswer card (now (k .entry)) (now (l .entry)) (length (now (sheet .entry))) ⌝ }
     ensures buffer { λ _. ⌜ now (sheet .exit) ≡ jBuffer card (now (k .entry)) (now (l .entry)) (now (sheet .entry)) ⌝ }
 {
-    if are_scalars(k, l) {
+    if digits::are_scalars(k, l) {
         if sheet.len() < SHEET {
             return Sheet::NoRoom;
         }
@@ -39,7 +37,7 @@ pub fn plan_i(k: &[u8], l: &[u8], m1: u32, m2: u32, sheet: &mut [u8]) -> Sheet
     ensures answer { λ r. ⌜ r ≡ iAnswer card (now (k .entry)) (now (l .entry)) m1 m2 (length (now (sheet .entry))) ⌝ }
     ensures buffer { λ _. ⌜ now (sheet .exit) ≡ iBuffer card (now (k .entry)) (now (l .entry)) m1 m2 (now (sheet .entry)) ⌝ }
 {
-    if are_scalars(k, l) {
+    if digits::are_scalars(k, l) {
         if are_windows(m1, m2) {
             if sheet.len() < SHEET {
                 return Sheet::NoRoom;
@@ -49,26 +47,6 @@ pub fn plan_i(k: &[u8], l: &[u8], m1: u32, m2: u32, sheet: &mut [u8]) -> Sheet
         return Sheet::BadWindow;
     }
     Sheet::BadScalar
-}
-
-// Question 1: whether a scalar has 1 to 66 bytes.
-fn is_scalar(bytes: &[u8]) -> bool
-    ensures { λ r. ⌜ r ≡ Call.sized card (now (bytes .entry)) ⌝ }
-{
-    if bytes.len() == 0 {
-        return false;
-    }
-    bytes.len() <= BYTES
-}
-
-// Question 1 of both scalars.
-pub fn are_scalars(k: &[u8], l: &[u8]) -> bool
-    ensures { λ r. ⌜ r ≡ (Call.sized card (now (k .entry)) && Call.sized card (now (l .entry))) ⌝ }
-{
-    if is_scalar(k) {
-        return is_scalar(l);
-    }
-    false
 }
 
 // Question 2 of both windows.
@@ -102,7 +80,7 @@ fn larger(a: usize, b: usize) -> usize
 
 // Writes the sheet of plan J.
 fn write_j(k: &[u8], l: &[u8], sheet: &mut [u8]) -> Sheet
-    requires { ⌜ ((Call.sized card (now k) && Call.sized card (now l)) ≡ true) × (card .sheet ≤ length (now sheet)) ⌝ }
+    requires { ⌜ ((sized card (now k) && sized card (now l)) ≡ true) × (card .sheet ≤ length (now sheet)) ⌝ }
     ensures { λ r. ⌜ r ≡ wrote J (now (k .entry)) (now (l .entry)) ⌝ }
     ensures { λ _. ⌜ now (sheet .exit) ≡ written J (scalar (now (k .entry))) (scalar (now (l .entry))) ++ drop (length (written J (scalar (now (k .entry))) (scalar (now (l .entry))))) (now (sheet .entry)) ⌝ }
 {
@@ -114,7 +92,7 @@ fn write_j(k: &[u8], l: &[u8], sheet: &mut [u8]) -> Sheet
 
 // Writes the sheet of plan I.
 fn write_i(k: &[u8], l: &[u8], m1: u32, m2: u32, sheet: &mut [u8]) -> Sheet
-    requires { ⌜ ((Call.sized card (now k) && Call.sized card (now l)) ≡ true) × (((isWindow m1 && isWindow m2) ≡ true) × (card .sheet ≤ length (now sheet))) ⌝ }
+    requires { ⌜ ((sized card (now k) && sized card (now l)) ≡ true) × (((isWindow m1 && isWindow m2) ≡ true) × (card .sheet ≤ length (now sheet))) ⌝ }
     ensures { λ r. ⌜ r ≡ wrote (I m1 m2) (now (k .entry)) (now (l .entry)) ⌝ }
     ensures { λ _. ⌜ now (sheet .exit) ≡ written (I m1 m2) (scalar (now (k .entry))) (scalar (now (l .entry))) ++ drop (length (written (I m1 m2) (scalar (now (k .entry))) (scalar (now (l .entry))))) (now (sheet .entry)) ⌝ }
 {

@@ -1,9 +1,10 @@
 -- `cheapest` meets its contract: each return is one line of CallAnswers.
 use mathlib.Core.Path.{sym, _∙_}
 use mathlib.Core.Bool.{and-eq-true-iff}
+use Rattle.digits.specs.Sized.{some-bytes}
+use Rattle.digits.specs.Scalar.{sized}
 use Rattle.digits.specs.Limits.{card}
-use Rattle.recode.specs.Call.{sized}
-use Rattle.chooser.proofs.CallAnswers.{some-bytes, not-scalars, over-limit, by-plan}
+use Rattle.chooser.proofs.CallAnswers.{not-scalars, over-limit, by-plan}
 use borrow.Author.Needs.{needs}
 use Rattle.chooser.proofs.call.cheapest.Statement.{statement}
 use Rattle.chooser.proofs.call.cheapest.Tie as tie
@@ -22,8 +23,8 @@ cheapest-plan-requires c κs =
     let s = c .before .before in
     let a = s .before .before .before .before .args in
     let z = and-eq-true-iff (sized card (a .k .now)) (sized card (a .l .now)) .0 (sym (s .are-scalars .ensures) ∙ c .before .if1 .taken) in
-    let k = some-bytes (a .k .now) (z .0) in
-    let l = some-bytes (a .l .now) (z .1) in
+    let k = some-bytes card (a .k .now) (z .0) in
+    let l = some-bytes card (a .l .now) (z .1) in
     (k .0, (k .1, (l .0, l .1)))
 
 sheet-of-requires : tie.Need-sheet-of-requires

@@ -1,55 +1,61 @@
 -- `joint` meets its contract: each return is one line of JointAnswers.
-use mathlib.Core.Path.{_≡_}
-use Prim.Native.Nat.{_+_, _*_, _≤_, max}
+use mathlib.Core.Path.{_≡_, sym, _∙_}
+use mathlib.Core.Bool.{true, _&&_}
+use mathlib.Core.List.{List}
+use Prim.Native.Nat.{ℕ, _+_, _*_, _≤_, max}
 use native.Mathlib.Omega.{arith}
 use borrow.Author.Needs.{needs}
 use lib.ListN.{length}
 use Rattle.digits.specs.Limits.{card}
-use Rattle.recode.specs.JointAnswers.{good-size, none-size, many-size, bad-first, bad-second, no-first, no-second, written}
+use Rattle.digits.specs.Scalar.{sized}
+use Rattle.digits.specs.Sized.{both, some-bytes}
+use Rattle.recode.specs.JointAnswers.{bad-scalar, no-first, no-second, written}
 use Rattle.recode.proofs.columns.joint.Statement.{statement}
 use Rattle.recode.proofs.columns.joint.Tie as tie
 
-returns : tie.Need-returns
-returns c = bad-first card (c .before .before .before .before .before .args .k .now) (c .before .before .before .before .before .args .l .now) (c .before .before .before .before .before .args .k-digits .now) (c .before .before .before .before .before .args .l-digits .now) (none-size card (c .before .before .before .before .before .args .k .now) (c .if1 .taken))
+-- question 1 is met
+module _ (c : tie.Then1) where
+  abbrev k : List ℕ
+  k = c .before .before .before .before .before .before .args .k .now
 
-returns-2 : tie.Need-returns-2
-returns-2 c = bad-first card (c .before .before .before .before .before .before .args .k .now) (c .before .before .before .before .before .before .args .l .now) (c .before .before .before .before .before .before .args .k-digits .now) (c .before .before .before .before .before .before .args .l-digits .now) (many-size card (c .before .before .before .before .before .before .args .k .now) (c .if2 .taken))
+  abbrev l : List ℕ
+  l = c .before .before .before .before .before .before .args .l .now
 
-returns-3 : tie.Need-returns-3
-returns-3 c =
-    bad-second card (c .before .before .before .before .before .before .before .args .k .now) (c .before .before .before .before .before .before .before .args .l .now) (c .before .before .before .before .before .before .before .args .k-digits .now) (c .before .before .before .before .before .before .before .args .l-digits .now) (good-size card (c .before .before .before .before .before .before .before .args .k .now) (c .before .before .if1 .left) (c .before .if2 .left))
-    (none-size card (c .before .before .before .before .before .before .before .args .l .now) (c .if3 .taken))
+  sizes : (sized card k && sized card l) ≡ true
+  sizes = sym (c .before .are-scalars .ensures) ∙ c .if1 .taken
 
-returns-4 : tie.Need-returns-4
-returns-4 c =
-    bad-second card (c .before .before .before .before .before .before .before .before .args .k .now) (c .before .before .before .before .before .before .before .before .args .l .now) (c .before .before .before .before .before .before .before .before .args .k-digits .now) (c .before .before .before .before .before .before .before .before .args .l-digits .now) (good-size card (c .before .before .before .before .before .before .before .before .args .k .now) (c .before .before .before .if1 .left) (c .before .before .if2 .left))
-    (many-size card (c .before .before .before .before .before .before .before .before .args .l .now) (c .if4 .taken))
+  few : (length k ≤ 66) × (length l ≤ 66)
+  few = let (a, b) = both (sized card k) (sized card l) sizes in (some-bytes card k a .1, some-bytes card l b .1)
+
+are-scalars-requires : tie.Need-are-scalars-requires
+are-scalars-requires c κs = search needs
 
 larger-requires : tie.Need-larger-requires
 larger-requires c κs = search needs
 
 mul-room : tie.Need-mul-room
-mul-room c = search needs
+mul-room c = omega (arith, c .larger .ensures, few (c .before))
 
 add-room : tie.Need-add-room
-add-room c = search needs
+add-room c = omega (arith, c .larger .ensures, few (c .before))
 
-returns-5 : tie.Need-returns-5
-returns-5 c =
-    no-first card (c .before .before .before .before .before .before .before .before .before .before .args .k .now) (c .before .before .before .before .before .before .before .before .before .before .args .l .now) (c .before .before .before .before .before .before .before .before .before .before .args .k-digits .now) (c .before .before .before .before .before .before .before .before .before .before .args .l-digits .now) (good-size card (c .before .before .before .before .before .before .before .before .before .before .args .k .now) (c .before .before .before .before .before .if1 .left) (c .before .before .before .before .if2 .left)) (good-size card (c .before .before .before .before .before .before .before .before .before .before .args .l .now) (c .before .before .before .if3 .left) (c .before .before .if4 .left))
-    (omega (arith, c .if5 .taken, c .before .larger .ensures))
+returns : tie.Need-returns
+returns c =
+    let a = c .before .before .before .before .before .before .before .before .args in
+    no-first card (a .k .now) (a .l .now) (a .k-digits .now) (a .l-digits .now) (sizes (c .before .before)) (omega (arith, c .if2 .taken, c .before .larger .ensures))
 
-module _ (c : tie.Else5) where
-  k-room : 8 * max (length (c .before .before .before .before .before .before .before .before .before .before .args .k .now)) (length (c .before .before .before .before .before .before .before .before .before .before .args .l .now)) + 1 ≤ length (c .before .before .before .before .before .before .before .before .before .before .args .k-digits .now)
-  k-room = omega (arith, c .if5 .left, c .before .larger .ensures)
+-- the first buffer has room
+module _ (c : tie.Else2) where
+  k-room : 8 * max (length (k (c .before .before))) (length (l (c .before .before))) + 1 ≤ length (c .before .before .before .before .before .before .before .before .args .k-digits .now)
+  k-room = omega (arith, c .if2 .left, c .before .larger .ensures)
 
-returns-6 : tie.Need-returns-6
-returns-6 c =
-    no-second card (c .before .before .before .before .before .before .before .before .before .before .before .args .k .now) (c .before .before .before .before .before .before .before .before .before .before .before .args .l .now) (c .before .before .before .before .before .before .before .before .before .before .before .args .k-digits .now) (c .before .before .before .before .before .before .before .before .before .before .before .args .l-digits .now) (good-size card (c .before .before .before .before .before .before .before .before .before .before .before .args .k .now) (c .before .before .before .before .before .before .if1 .left) (c .before .before .before .before .before .if2 .left)) (good-size card (c .before .before .before .before .before .before .before .before .before .before .before .args .l .now) (c .before .before .before .before .if3 .left) (c .before .before .before .if4 .left)) (k-room (c .before))
-    (omega (arith, c .if6 .taken, c .before .before .larger .ensures))
+returns-2 : tie.Need-returns-2
+returns-2 c =
+    let a = c .before .before .before .before .before .before .before .before .before .args in
+    no-second card (a .k .now) (a .l .now) (a .k-digits .now) (a .l-digits .now) (sizes (c .before .before .before)) (k-room (c .before)) (omega (arith, c .if3 .taken, c .before .before .larger .ensures))
 
 write-joint-requires : tie.Need-write-joint-requires
-write-joint-requires c κs = search needs
+write-joint-requires c κs = (few (c .before .before .before .before .before), (k-room (c .before .before .before), omega (arith, c .before .before .if3 .left, c .before .before .before .before .larger .ensures)))
 
 same-length : tie.Need-same-length
 same-length c = search needs
@@ -57,26 +63,30 @@ same-length c = search needs
 same-length-2 : tie.Need-same-length-2
 same-length-2 c = search needs
 
-returns-7 : tie.Need-returns-7
-returns-7 c =
+returns-3 : tie.Need-returns-3
+returns-3 c =
+    let a = c .before .before .before .before .before .before .before .before .before .before .before .before .before .before .before .before .args in
     let w = c .before .before .before .before .write-joint in
-    written card (c .before .before .before .before .before .before .before .before .before .before .before .before .before .before .before .before .before .before .args .k .now) (c .before .before .before .before .before .before .before .before .before .before .before .before .before .before .before .before .before .before .args .l .now) (c .before .before .before .before .before .before .before .before .before .before .before .before .before .before .before .before .before .before .args .k-digits .now) (c .before .before .before .before .before .before .before .before .before .before .before .before .before .before .before .before .before .before .args .l-digits .now) (good-size card (c .before .before .before .before .before .before .before .before .before .before .before .before .before .before .before .before .before .before .args .k .now) (c .before .before .before .before .before .before .before .before .before .before .before .before .before .if1 .left) (c .before .before .before .before .before .before .before .before .before .before .before .before .if2 .left)) (good-size card (c .before .before .before .before .before .before .before .before .before .before .before .before .before .before .before .before .before .before .args .l .now) (c .before .before .before .before .before .before .before .before .before .before .before .if3 .left) (c .before .before .before .before .before .before .before .before .before .before .if4 .left)) (k-room (c .before .before .before .before .before .before .before .before))
-    (w .result) (w .last .1 .1 .0) (w .last .1 .1 .1 .0) (omega (arith, c .before .before .before .before .before .before .before .if6 .left, c .before .before .before .before .before .before .before .before .before .larger .ensures)) (w .ensures .0) (w .ensures .1 .0) (w .ensures .1 .1)
+    written card (a .k .now) (a .l .now) (a .k-digits .now) (a .l-digits .now) (sizes (c .before .before .before .before .before .before .before .before .before .before)) (k-room (c .before .before .before .before .before .before .before .before))
+    (w .result) (w .last .1 .1 .0) (w .last .1 .1 .1 .0) (omega (arith, c .before .before .before .before .before .before .before .if3 .left, c .before .before .before .before .before .before .before .before .before .larger .ensures)) (w .ensures .0) (w .ensures .1 .0) (w .ensures .1 .1)
+
+returns-4 : tie.Need-returns-4
+returns-4 c =
+    let a = c .before .before .before .before .before .before .args in
+    bad-scalar card (a .k .now) (a .l .now) (a .k-digits .now) (a .l-digits .now) (sym (c .before .are-scalars .ensures) ∙ c .if1 .left)
 
 pub joint-spec : {M : Type 1} → statement M
 joint-spec =
     tie.close
     (tie.spec
-    returns
-    returns-2
-    returns-3
-    returns-4
+    are-scalars-requires
     larger-requires
     mul-room
     add-room
-    returns-5
-    returns-6
+    returns
+    returns-2
     write-joint-requires
     same-length
     same-length-2
-    returns-7)
+    returns-3
+    returns-4)

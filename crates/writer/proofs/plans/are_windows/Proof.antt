@@ -1,7 +1,7 @@
 -- `are_windows` meets its contract: both tests, or the first is missed.
 use mathlib.Core.Path.{sym, _∙_}
 use Rattle.digits.specs.Row.{isWindow}
-use Rattle.writer.proofs.PlanAnswers.{and-first, and-not}
+use Rattle.digits.proofs.Asked.{and-first, and-not}
 use borrow.Author.Needs.{needs}
 use Rattle.writer.proofs.plans.are_windows.Statement.{statement}
 use Rattle.writer.proofs.plans.are_windows.Tie as tie

@@ -1,8 +1,8 @@
 -- `write_i` meets its contract: after the two row calls the rows hold the digits (DigitRows).
 use mathlib.Core.Path.{refl}
 use mathlib.Core.Bool.{and-eq-true-iff}
+use Rattle.digits.specs.Scalar.{sized}
 use Rattle.digits.specs.Limits.{card}
-use Rattle.recode.specs.Call.{sized}
 use Rattle.writer.specs.Met.{windows-valid}
 use Rattle.writer.proofs.DigitRows.{in-bounds, rows-hold, rows-places}
 use borrow.Author.Needs.{needs}

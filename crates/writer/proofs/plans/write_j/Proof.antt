@@ -1,8 +1,8 @@
 -- `write_j` meets its contract: after the joint call the two rows hold the digits (DigitRows).
 use mathlib.Core.Path.{refl}
 use mathlib.Core.Bool.{and-eq-true-iff}
+use Rattle.digits.specs.Scalar.{sized}
 use Rattle.digits.specs.Limits.{card}
-use Rattle.recode.specs.Call.{sized}
 use Rattle.written.specs.Valid.{forJ}
 use Rattle.writer.proofs.DigitRows.{in-bounds, joint-holds, joint-places}
 use borrow.Author.Needs.{needs}

@@ -1,8 +1,8 @@
 -- `is_scalar` meets its contract, by its tests.
 use mathlib.Core.Path.{refl}
-use Rattle.writer.proofs.PlanAnswers.{sized-none, sized-some}
-use Rattle.writer.proofs.plans.is_scalar.Statement.{statement}
-use Rattle.writer.proofs.plans.is_scalar.Tie as tie
+use Rattle.digits.proofs.Asked.{sized-none, sized-some}
+use Rattle.digits.proofs.scalar.is_scalar.Statement.{statement}
+use Rattle.digits.proofs.scalar.is_scalar.Tie as tie
 
 returns : tie.Need-returns
 returns c = sized-none (c .before .args .bytes .now) (c .if1 .taken)

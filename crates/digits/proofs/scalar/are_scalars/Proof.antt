@@ -1,11 +1,11 @@
 -- `are_scalars` meets its contract: both tests, or the first is missed.
 use mathlib.Core.Path.{sym, _∙_}
+use Rattle.digits.specs.Scalar.{sized}
 use Rattle.digits.specs.Limits.{card}
-use Rattle.recode.specs.Call.{sized}
-use Rattle.writer.proofs.PlanAnswers.{and-first, and-not}
+use Rattle.digits.proofs.Asked.{and-first, and-not}
 use borrow.Author.Needs.{needs}
-use Rattle.writer.proofs.plans.are_scalars.Statement.{statement}
-use Rattle.writer.proofs.plans.are_scalars.Tie as tie
+use Rattle.digits.proofs.scalar.are_scalars.Statement.{statement}
+use Rattle.digits.proofs.scalar.are_scalars.Tie as tie
 
 is-scalar-requires : tie.Need-is-scalar-requires
 is-scalar-requires c κs = search needs

@@ -1,0 +1,26 @@
+-- A question by its tests.
+use mathlib.Core.Path.{_≡_, sym, ap}
+use mathlib.Core.Logic.{_≢_}
+use mathlib.Core.Bool.{Bool, true, false, _&&_}
+use mathlib.Core.List.{List}
+use Prim.Native.Nat.{ℕ}
+use native.Mathlib.Omega.{arith}
+use lib.Dec.{leb}
+use lib.ListN.{length}
+use borrow.Author.Tests.{lt-ltb, le-ltb}
+use Rattle.digits.specs.Limits.{card}
+use Rattle.digits.specs.Scalar.{sized}
+
+-- question 1
+pub sized-none : (s : List ℕ) → length s ≡ 0 → false ≡ sized card s
+sized-none s e = rw (le-ltb 0 (length s) (omega arith))
+
+pub sized-some : (s : List ℕ) (b : Bool) → length s ≢ 0 → b ≡ leb (length s) 66 → b ≡ sized card s
+sized-some s b h e = rw (lt-ltb 0 (length s) (omega arith)) e
+
+-- both of two tests
+pub and-first : (a b : Bool) → a ≡ true → b ≡ (a && b)
+and-first a b e = sym (ap (λ (x : Bool). x && b) e)
+
+pub and-not : (a b : Bool) → a ≡ false → false ≡ (a && b)
+and-not a b e = sym (ap (λ (x : Bool). x && b) e)
