@@ -1,17 +1,15 @@
 -- The answer and the buffer of the call for the cheapest sheet, by the first question missed, and where all are met.
 use mathlib.Core.Path.{_≡_, refl, sym, ap, subst, _∙_}
-use mathlib.Core.Bool.{Bool, true, false, _&&_, cond, and-eq-true-iff}
+use mathlib.Core.Bool.{true, false, _&&_, cond}
 use mathlib.Core.List.{List}
 use Prim.Native.Nat.{ℕ, _≤_, _<_, _^_}
-use lib.Dec.{leb, ltb}
 use lib.ListN.{length}
-use borrow.Author.Tests.{le-leb, lt-leb, leb-true, ltb-true}
+use borrow.Author.Tests.{le-leb, lt-leb}
 use Rattle.digits.specs.Sized.{both, bounded}
 use Rattle.digits.specs.Bytes.{Bytes}
-use Rattle.digits.specs.Limits.{Limits, card}
+use Rattle.digits.specs.Limits.{card}
 use Rattle.digits.specs.Scalar.{scalar, sized}
 use Rattle.sheet.specs.declared.Plan.{Plan}
-use Rattle.sheet.specs.declared.Plan.the-variants.{J, I}
 use Rattle.sheet.specs.Plan.{mostSlots}
 use Rattle.sheet.specs.Planned.{of-window}
 use Rattle.written.specs.Valid.{Valid, forJ, forI}

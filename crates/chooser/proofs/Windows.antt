@@ -1,11 +1,11 @@
 -- Filling the weights of the sixteen windows, one a turn.
-use mathlib.Core.Path.{_≡_, refl, sym, ap, _∙_}
+use mathlib.Core.Path.{_≡_, refl, ap, _∙_}
 use mathlib.Core.List.{List, [], _∷_, _++_, map, append-assoc, append-nil}
-use Prim.Native.Nat.{ℕ, zero, suc, _+_, _-_, _*_, _≤_, _<_}
+use Prim.Native.Nat.{ℕ, zero, suc, _+_, _-_, _*_, _<_}
 use native.Mathlib.Numerals.{add-one}
 use native.Mathlib.Omega.{arith}
 use lib.IntN.{pos}
-use lib.ListN.{length, getD, set, take, replicate, length-map, List·getD-map}
+use lib.ListN.{length, getD, set, take, replicate, length-map}
 use lib.Seq.{set-at, take-suc, take-all, length-take-le}
 use Rattle.digits.specs.Row as Rows
 use Rattle.forms.specs.Row.{row}

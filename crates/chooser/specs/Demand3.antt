@@ -1,10 +1,10 @@
 -- Demand 3: the cheapest sheet is accepted, keeps the limit, has the additions that its header counts, and nobody can write
 -- an accepted sheet for the same scalars within the limit that has fewer. And a column list that keeps the joint sparse rules
 -- with a non-zero top is the only one for its pair, and the one that the joint call writes.
-use mathlib.Core.Path.{_≡_, refl, sym, ap, ap₂, subst, _∙_}
+use mathlib.Core.Path.{_≡_, sym, ap, ap₂, subst, _∙_}
 use mathlib.Core.Bool.{Bool, true, false, _&&_, cond}
 use mathlib.Core.List.{List}
-use Prim.Native.Nat.{ℕ, _+_, _-_, _^_, _≤_, _<_, max}
+use Prim.Native.Nat.{ℕ, _-_, _^_, _≤_, _<_, max}
 use native.Mathlib.Omega.{arith}
 use lib.IntN.{pos}
 use lib.ListN.{length}
@@ -12,21 +12,19 @@ use Rattle.digits.specs.Column as Columns
 use Rattle.digits.specs.Limits.{card}
 use Rattle.digits.specs.Row.{value}
 use Rattle.digits.specs.Scalar.{scalar, sized}
-use Rattle.digits.specs.Two.{Column, Two, P, Q, two}
+use Rattle.digits.specs.Two.{Column, P, Q, two}
 use Rattle.forms.specs.Joint.{Keeps, Topped, joint}
 use Rattle.forms.specs.Promise as Promise
 use Rattle.recode.specs.Call as Call
 use Rattle.recode.specs.Call.{roomy, number, filled, left, jointAnswer, jointBuffer}
 use Rattle.recode.specs.declared.answer.Recoded.{Recoded}
 use Rattle.recode.specs.declared.answer.Recoded.the-variants.{BadScalar, NoRoom, Written}
-use Rattle.sheet.specs.declared.Plan.{Plan}
-use Rattle.sheet.specs.declared.Plan.the-variants.{J, I}
 use Rattle.sheet.specs.Answer.{Accepted, heading, sheetSlots, sheetAdditions}
 use Rattle.sheet.specs.Digits.{columns}
 use Rattle.sheet.specs.Exactly.{accepted-exactly, accepted-states}
 use Rattle.sheet.specs.Line.{Kind, Header, plan, planOf}
 use Rattle.sheet.specs.Rows.{accepted-rows}
-use Rattle.sheet.specs.Sound.{Sound, Windows, forJ, forI, sheetLines}
+use Rattle.sheet.specs.Sound.{Windows, forJ, forI, sheetLines}
 use Rattle.sheet.specs.Spelling.{lines}
 use Rattle.written.specs.Accepted.{written-accepted, written-lines, written-slots, written-counted, written-cost, written-columns}
 use Rattle.written.specs.Valid as Valids

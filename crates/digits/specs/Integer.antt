@@ -1,6 +1,6 @@
 -- Whole numbers for `omega`, which reads naturals only: z is `up z` less `down z`, with one law for each operation.
 -- `integers` lets `omega` read and prove equations of ℤ; the law of each compound term goes into its list. Assumes nothing.
-use mathlib.Core.Path.{_≡_, refl, sym, ap, _∙_}
+use mathlib.Core.Path.{_≡_, sym, ap, _∙_}
 use mathlib.Core.Bool.{Bool, true, false, not, cond}
 use Prim.Native.Nat.{ℕ, zero, suc, _+_, _*_, _-_, _/_, _%_, _≤_, _<_, min}
 use native.Mathlib.Nat.{mod-lt, div-add-mod'}

@@ -3,7 +3,7 @@ use mathlib.Core.Path.{_≡_, refl, ap, _∙_}
 use Prim.Native.Nat.{ℕ, zero, suc, _+_, _*_, _/_, _^_, _≤_, _<_}
 use native.Mathlib.Omega.{arith}
 use lib.Arith.{bin-ind}
-use lib.Pow.{pow-pos, pow-mono}
+use lib.Pow.{pow-pos}
 use Rattle.digits.specs.Scalar.{bitLength, bitLengthIn}
 
 -- the bound on the halvings does not matter

@@ -1,7 +1,7 @@
 -- Signed machine numbers of 16 bits: a small number fits, is read back as it was stored, and is cast to an unsigned type
 -- where it is not negative.
 use mathlib.Core.Path.{_≡_, sym, subst}
-use Prim.Native.Nat.{ℕ, suc, _+_, _^_, _<_, _≤_}
+use Prim.Native.Nat.{ℕ, _+_, _^_, _<_}
 use native.Mathlib.Omega.{arith}
 use lib.Dec.{T}
 use lib.IntN.{ℤ, pos, natAbs}

@@ -1,8 +1,7 @@
 -- Scalars: unsigned numbers in bytes, the most significant first, and their bit length.
-use mathlib.Core.Path.{_≡_, refl, ap}
 use mathlib.Core.Bool.{Bool, _&&_}
 use mathlib.Core.List.{List, [], _∷_, reverse}
-use Prim.Native.Nat.{ℕ, zero, suc, _+_, _*_, _/_, _<_}
+use Prim.Native.Nat.{ℕ, zero, suc, _+_, _*_, _/_}
 use lib.Dec.{ltb, leb}
 use lib.ListN.{length}
 use Rattle.digits.specs.Limits.{Limits}

@@ -6,10 +6,10 @@ use mathlib.Core.List.{List, [], _∷_}
 use Prim.Native.Nat.{ℕ, zero, suc, _+_, _%_, _≤_}
 use lib.Dec.{T, eqb}
 use lib.ListN.{length, getD}
-use lib.IntN.{ℤ, pos, negsuc, _+ℤ_, _-ℤ_, _*ℤ_, negℤ, natAbs}
+use lib.IntN.{ℤ, pos, negsuc, _-ℤ_, _*ℤ_, negℤ, natAbs}
 use Rattle.digits.specs.Integer.{rem, half}
 use Rattle.digits.specs.Two as Two
-use Rattle.digits.specs.Two.{Column, P, Q, other, blank, blankColumn}
+use Rattle.digits.specs.Two.{Column, other, blank, blankColumn}
 use Rattle.forms.specs.Residue.{residue}
 
 -- the column at a place; above the top there are zero columns

@@ -2,4 +2,6 @@
 pub mod PointRead
 pub mod HeaderRead
 pub mod LineRead
+pub mod LineAt
+pub mod FirstLine
 pub mod Was

@@ -1,11 +1,10 @@
 -- Two figures make a byte: the scalar of the bytes is the number that the figures spell.
 use mathlib.Core.Path.{_≡_, refl, sym, ap, subst, _∙_}
 use mathlib.Core.Bool.{Bool, true, false}
-use mathlib.Core.List.{List, [], _∷_, _++_, reverse, reverse-append}
-use Prim.Native.Nat.{ℕ, zero, suc, _+_, _-_, _*_, _/_, _%_, _≤_, _<_}
+use mathlib.Core.List.{List, [], _∷_, _++_, reverse-append}
+use Prim.Native.Nat.{ℕ, zero, suc, _+_, _-_, _*_, _≤_, _<_}
 use native.Mathlib.Numerals.{add-one}
 use native.Mathlib.Omega.{arith}
-use borrow.Author.Tests.{ltb-true}
 use lib.Dec.{T, ltb, ltb→lt}
 use lib.ListN.{length, getD, set, take, replicate, length-set, length-append, length-replicate, List·getD-eq-default}
 use lib.Seq.{take-suc, take-suc-set, take-all}

@@ -13,7 +13,7 @@ use Rattle.digits.specs.Limits.{card}
 use Rattle.sheet.specs.declared.figures.Decimal.the-variants.{Is, None}
 use Rattle.sheet.specs.Field.{isNumeral, decimalOf}
 use Rattle.sheet.specs.Numeral.{figures, followed}
-use Rattle.sheet.specs.Spelling.{readDecimal, readScalar, _>>=_}
+use Rattle.sheet.specs.Spelling.{readDecimal, _>>=_}
 use Rattle.sheet.proofs.FieldTurns.{numeral-value, numeral-parts}
 use Rattle.order.specs.Order.{Order, readFields, slotsOf}
 

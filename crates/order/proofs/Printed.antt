@@ -2,15 +2,15 @@
 use mathlib.Core.Path.{_≡_, refl, sym, ap, ap₂, subst, _∙_}
 use mathlib.Core.Bool.{Bool, true, false, cond}
 use mathlib.Core.List.{List, [], _∷_, _++_}
-use mathlib.Core.Option.{Option, none, some}
+use mathlib.Core.Option.{Option, none}
 use Prim.Native.Nat.{ℕ, _+_, _≤_, _<_}
 use native.Mathlib.Omega.{arith}
 use borrow.Author.Tests.{le-leb, lt-leb, lt-ltb}
-use lib.ListN.{length, getD, set, take, drop, length-set}
+use lib.ListN.{length, getD, set, take, length-set}
 use lib.Seq.{length-take-le}
 use Rattle.digits.specs.Sized.{bytes-sized}
 use Rattle.digits.specs.Limits.{card}
-use Rattle.digits.specs.Scalar.{scalar, sized}
+use Rattle.digits.specs.Scalar.{scalar}
 use Rattle.sheet.specs.Numeral.{numeral, followed}
 use Rattle.sheet.specs.Plan.{isLimit}
 use Rattle.sheet.specs.Spelling.{comma, cut, lineFeed}
@@ -18,7 +18,7 @@ use Rattle.written.specs.Written.{written}
 use Rattle.writer.specs.Call as Call
 use Rattle.writer.specs.Call.{wrote, left, number}
 use Rattle.writer.specs.declared.answer.Sheet.{Sheet}
-use Rattle.writer.specs.declared.answer.Sheet.the-variants.{BadScalar, BadWindow, NoRoom, BadLimit, Written}
+use Rattle.writer.specs.declared.answer.Sheet.the-variants.{BadLimit, Written}
 use Rattle.sheet.specs.NumeralFigures.{numeral-low}
 use Rattle.chooser.specs.Call.{cheapestAnswer, cheapestBuffer}
 use Rattle.chooser.specs.Cheapest.{cheapestPlan, cheapest}

@@ -1,6 +1,6 @@
 -- An order has at most 271 bytes: the program may stop reading behind them.
 use mathlib.Core.Path.{_≡_, refl, sym, ap, _∙_}
-use mathlib.Core.Logic.{_⊎_, inl, inr, ⊎-elim}
+use mathlib.Core.Logic.{_⊎_, inl, inr}
 use mathlib.Core.Bool.{Bool, true, false, cond}
 use mathlib.Core.List.{List, [], _∷_}
 use mathlib.Core.Option.{Option, none, some}
@@ -12,7 +12,7 @@ use lib.Dec.{eqb}
 use lib.ListN.{length, getD}
 use Rattle.digits.specs.Limits.{card}
 use Rattle.sheet.specs.Cut.{cut-some}
-use Rattle.sheet.specs.Numeral.{padded, figures, followed, number}
+use Rattle.sheet.specs.Numeral.{number}
 use Rattle.sheet.specs.Spelling.{lineFeed, comma, push, cut, readScalar, readDecimal, _>>=_}
 use Rattle.order.specs.Order.{Order, onlyLine, lineIn, lineOf, readFields, readOrder, refusal, answered, printed}
 

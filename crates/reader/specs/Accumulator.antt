@@ -20,17 +20,21 @@ pub record Roomy (n : Number) : Type 0 where
   pub plus : n .plus ≤ room
   pub minus : n .minus ≤ room
 
--- the number n and a digit z of 32 bits at most
+-- a digit has 32 bits at most
+abbrev pub Short : ℤ → Type 0
+Short z = up z + down z < 4294967296
+
+-- the number n and a digit z
 pub record Plus (n : Number) (z : ℤ) (r : Number) : Type 0 where
   pub parts : Parts r (n .plus + up z) (n .minus + down z)
-  pub small : up z + down z < 4294967296
+  pub small : Short z
 
 -- L, D and A
 pub record Loaded (t : Point) (r : Accumulator) : Type 0 where
   pub p : Parts (r .p) (up (t .p)) (down (t .p))
   pub q : Parts (r .q) (up (t .q)) (down (t .q))
-  pub small-p : up (t .p) + down (t .p) < 4294967296
-  pub small-q : up (t .q) + down (t .q) < 4294967296
+  pub small-p : Short (t .p)
+  pub small-q : Short (t .q)
 
 pub record Doubled (a r : Accumulator) : Type 0 where
   pub p : Parts (r .p) (2 * a .p .plus) (2 * a .p .minus)

@@ -1,14 +1,14 @@
 -- The turns of the column loop: the columns laid into the two buffers, followed by those of the remainders, are all columns.
-use mathlib.Core.Path.{_≡_, refl, sym, ap, ap₂, subst, _∙_}
-use mathlib.Core.List.{List, [], _∷_, _++_, map, map-append, append-assoc, append-nil}
-use Prim.Native.Nat.{ℕ, zero, suc, _+_, _≤_, _<_}
+use mathlib.Core.Path.{_≡_, refl, sym, ap, subst, _∙_}
+use mathlib.Core.List.{List, [], _∷_, _++_, map-append, append-assoc, append-nil}
+use Prim.Native.Nat.{ℕ, _+_, _≤_, _<_}
 use native.Mathlib.Omega.{arith}
 use lib.IntN.{ℤ, pos}
 use lib.ListN.{length, set, replicate, length-append, length-map}
 use Rattle.digits.specs.Byte.{byteOf}
 use Rattle.digits.specs.Column as Column
 use Rattle.digits.specs.Two as Two
-use Rattle.digits.specs.Two.{Two, P, Q, of, other, two}
+use Rattle.digits.specs.Two.{Two, P, of, two}
 use Rattle.forms.specs.Joint.{joint, column, digit, rest}
 use Rattle.forms.specs.JointRule.{BothZero, joint-unfold, joint-zero}
 use Rattle.forms.specs.JointValue.{column-digit}

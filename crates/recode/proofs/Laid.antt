@@ -7,7 +7,6 @@ use lib.IntN.{ℤ, pos}
 use lib.ListN.{length, set, replicate, length-append, length-map, length-replicate, replicate-append-replicate}
 use lib.Seq.{set-at}
 use Rattle.digits.specs.Byte.{byteOf}
-use Rattle.digits.specs.Integer.{rem}
 
 pub record Laid (P : ℕ) (ds : List ℤ) (out : List ℕ) (place : ℕ) : Type 0 where
   pub places : length ds ≡ place

@@ -1,12 +1,11 @@
 -- Lending the first places of a cleared buffer: they are cleared too, and what is filled there fills the whole buffer.
 use mathlib.Core.Path.{_≡_, refl, sym, ap, _∙_}
-use mathlib.Core.List.{List, [], _∷_, _++_, map, reverse, append-assoc}
-use Prim.Native.Nat.{ℕ, zero, suc, _+_, _-_, _*_, _≤_, _<_}
+use mathlib.Core.List.{List, _∷_, _++_, reverse, append-assoc}
+use Prim.Native.Nat.{ℕ, zero, suc, _+_, _-_, _≤_}
 use native.Mathlib.Nat.{le-of-suc-le-suc}
 use native.Mathlib.Omega.{arith}
 use lib.IntN.{ℤ}
 use lib.ListN.{length, take, drop, replicate, length-replicate, replicate-append-replicate}
-use Rattle.digits.specs.Byte.{byteOf}
 use Rattle.digits.specs.Bytes.{little-append}
 use Rattle.digits.specs.Scalar.{little, scalar}
 use Rattle.recode.specs.Call.{filled}

@@ -1,19 +1,19 @@
 -- The answer and the buffers of a joint call, by the first question missed, and where all are met.
-use mathlib.Core.Path.{_≡_, refl, sym, ap, _∙_}
-use mathlib.Core.Bool.{Bool, true, false, _&&_}
+use mathlib.Core.Path.{_≡_, sym, ap, _∙_}
+use mathlib.Core.Bool.{true, false, _&&_}
 use mathlib.Core.List.{List}
-use Prim.Native.Nat.{ℕ, suc, _+_, _*_, _≤_, _<_, max}
+use Prim.Native.Nat.{ℕ, _+_, _*_, _≤_, _<_, max}
 use borrow.Author.Tests.{le-leb, lt-leb}
 use lib.IntN.{pos}
 use lib.ListN as ListN
 use Rattle.digits.specs.Column as Column
 use Rattle.digits.specs.Limits.{Limits}
 use Rattle.digits.specs.Scalar.{scalar, sized}
-use Rattle.digits.specs.Two.{Two, P, Q, of, two}
+use Rattle.digits.specs.Two.{P, Q, two}
 use Rattle.forms.specs.Joint.{joint}
 use Rattle.recode.specs.declared.answer.Recoded.{Recoded}
-use Rattle.recode.specs.declared.answer.Recoded.the-variants.{BadScalar, BadWindow, NoRoom, Written}
-use Rattle.recode.specs.Call.{jointAnswer, jointBuffer, left, filled, roomy}
+use Rattle.recode.specs.declared.answer.Recoded.the-variants.{BadScalar, NoRoom, Written}
+use Rattle.recode.specs.Call.{jointAnswer, jointBuffer, left, filled}
 
 module _ (limits : Limits) (s t k l : List ℕ) where
   -- what a call returns and leaves, where its answer is a

@@ -1,16 +1,15 @@
 -- The turns of the scans for a byte, and where the parts of a list begin. From the laws of Cut.
-use mathlib.Core.Path.{_≡_, refl, sym, ap, subst, _∙_}
+use mathlib.Core.Path.{_≡_, refl, ap, subst, _∙_}
 use mathlib.Core.Logic.{_≢_}
-use mathlib.Core.Bool.{Bool, true, false, cond}
+use mathlib.Core.Bool.{Bool, true, false}
 use mathlib.Core.List.{List, [], _∷_, _++_}
 use Prim.Native.Nat.{ℕ, zero, suc, _+_, _-_, _≤_, _<_}
 use native.Mathlib.Numerals.{add-one}
 use native.Mathlib.Omega.{arith}
-use lib.Dec.{eqb}
 use lib.ListN.{length, getD, take, drop, drop-of-length-le, length-drop}
 use lib.Seq.{drop-cons, take-suc, take-all, split-at, drop-drop}
 use borrow.Author.Tests.{eq-eqb, ne-eqb}
-use Rattle.sheet.specs.Every.{Every, empty, more, every-append}
+use Rattle.sheet.specs.Every.{empty, more, every-append}
 use Rattle.sheet.specs.Spelling.{cut, push, letter}
 use Rattle.sheet.specs.Cut.{Lacks, cut-last, cut-more, cut-some}
 use Rattle.sheet.specs.Field.{First, Behind}

@@ -1,8 +1,8 @@
 -- Plans: the slots that each needs, the points of its T lines, and what these cost.
-use mathlib.Core.Bool.{Bool, _&&_, cond}
+use mathlib.Core.Bool.{Bool, cond}
 use mathlib.Core.List.{List, [], _∷_, _++_, map}
-use Prim.Native.Nat.{ℕ, zero, suc, _+_, _-_, _/_, _%_}
-use lib.Dec.{eqb, leb}
+use Prim.Native.Nat.{ℕ, zero, suc, _+_, _-_, _/_}
+use lib.Dec.{leb}
 use lib.IntN.{ℤ, pos, negsuc}
 use Rattle.digits.specs.Two.{Column}
 use Rattle.sheet.specs.declared.Plan.{Plan}

@@ -1,7 +1,7 @@
 ghost use mathlib.Core.Path.{_≡_};
 ghost use mathlib.Core.List.{[]};
-ghost use Prim.Native.Nat.{ℕ, suc, _≤_, _<_};
-ghost use lib.ListN.{length, getD, take, drop};
+ghost use Prim.Native.Nat.{_≤_, _<_};
+ghost use lib.ListN.{length, getD};
 ghost use Rattle.digits.specs.Limits.{card};
 ghost use Rattle.sheet.specs.Spelling.{comma, cut, letter, readDecimal};
 ghost use Rattle.sheet.specs.Field.{First, Behind, isNumeral, decimalOf};

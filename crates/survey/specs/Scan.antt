@@ -1,16 +1,12 @@
 -- What the first pass over the lines finds: the first line out of place, or what each of the questions 7 to 10 is answered.
 use mathlib.Core.Path.{_≡_}
-use mathlib.Core.Bool.{true}
-use mathlib.Core.List.{List, [], _∷_}
-use mathlib.Core.Option.{Option, none, some}
-use Prim.Native.Nat.{ℕ, _+_}
-use lib.ListN.{getD}
+use mathlib.Core.List.{List, _∷_}
+use mathlib.Core.Option.{none, some}
+use Prim.Native.Nat.{_+_}
 use Rattle.digits.specs.Limits.{card}
-use Rattle.sheet.specs.Line.{Header, Line, plan, header, table, load, double, add, end, misspelled}
-use Rattle.sheet.specs.Spelling.{lineFeed, comma, cut}
+use Rattle.sheet.specs.Line.{Header, Line, plan, header}
 use Rattle.sheet.specs.Questions.{misplaced, offPlan, disallowed, excess, additions, doublings}
 use Rattle.lines.specs.Coded.{codedHeader}
-use Rattle.sheet.specs.Field.{isNumeral}
 use Rattle.survey.specs.State.{found, misplacedFrom, offPlanFrom, disallowedIn, excessIn, leftAfter}
 use Rattle.lines.specs.declared.header.Header as header-of
 use Rattle.survey.specs.declared.state.State.{State}

@@ -12,7 +12,7 @@ use borrow.Author.Tests.{ne-eqb}
 use Rattle.digits.specs.Column as Columns
 use Rattle.digits.specs.Row as Rows
 use Rattle.digits.specs.Row.{count}
-use Rattle.digits.specs.Column.{counted, row}
+use Rattle.digits.specs.Column.{counted}
 use Rattle.digits.specs.Two.{Column, isZero, blank}
 use Rattle.sheet.specs.declared.Plan.{Plan}
 use Rattle.sheet.specs.declared.Plan.the-variants.{J, I}

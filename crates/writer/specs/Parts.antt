@@ -7,12 +7,9 @@ use lib.Dec.{ltb}
 use lib.IntN.{ℤ, pos, negsuc}
 use lib.ListN.{length, getD}
 use lib.Seq.{sets}
-use Rattle.digits.specs.Column.{counted}
 use Rattle.digits.specs.Limits.{card}
-use Rattle.digits.specs.Row.{count}
-use Rattle.digits.specs.Two.{Column, blank, blankColumn}
+use Rattle.digits.specs.Two.{Column, blankColumn}
 use Rattle.sheet.specs.declared.Plan.{Plan}
-use Rattle.sheet.specs.declared.Plan.the-variants.{J, I}
 use Rattle.sheet.specs.Line.{Header, table}
 use Rattle.sheet.specs.Numeral.{figure, numeral}
 use Rattle.sheet.specs.Plan.{Point, point, stored, odds, multiples}

@@ -17,10 +17,10 @@ use Rattle.sheet.specs.declared.Plan.{Plan}
 use Rattle.sheet.specs.declared.Plan.the-variants.{J, I}
 use Rattle.sheet.specs.Answer as Answer
 use Rattle.sheet.specs.Answer.{Accepted, sheetSlots, sheetAdditions}
-use Rattle.sheet.specs.Digits.{columnsFrom, columns, rowP, rowQ, weight, Reads}
+use Rattle.sheet.specs.Digits.{columns, rowP, rowQ, weight, Reads}
 use Rattle.sheet.specs.Exactly.{accepted-exactly}
 use Rattle.sheet.specs.Line.{Header, plan, Line, table, end}
-use Rattle.sheet.specs.Plan.{Point, point, slots, stored, tables, tableAdditions, doubled, tableDoublings}
+use Rattle.sheet.specs.Plan.{point, slots, stored, tables, tableAdditions, doubled, tableDoublings}
 use Rattle.sheet.specs.Questions.{additions, doublings, result}
 use Rattle.sheet.specs.Rows.{columns-value, sheet-columns, sheet-additions, accepted-rows}
 use Rattle.sheet.specs.Sound.{Steps, stepLines, sheetLines, Windows, Allowed, Sound}

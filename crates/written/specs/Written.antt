@@ -1,10 +1,10 @@
 -- The sheet that is written for two scalars and a plan: its digits are those of the row or joint form, from the highest
 -- place down to place 0.
-use mathlib.Core.Bool.{Bool, true, false, not, cond}
-use mathlib.Core.List.{List, [], _∷_, _++_, map, reverse}
-use Prim.Native.Nat.{ℕ, zero, suc}
+use mathlib.Core.Bool.{cond}
+use mathlib.Core.List.{List, [], _∷_, _++_, reverse}
+use Prim.Native.Nat.{ℕ}
 use lib.IntN.{ℤ, pos}
-use Rattle.digits.specs.Two.{Column, isZero, blank}
+use Rattle.digits.specs.Two.{Column, blank}
 use Rattle.forms.specs.Joint.{joint}
 use Rattle.forms.specs.Row.{row}
 use Rattle.sheet.specs.declared.Plan.{Plan}

@@ -1,6 +1,5 @@
 -- `sheet_of` meets its contract: each plan's call.
-use mathlib.Core.Path.{_≡_, sym, ap, _∙_}
-use mathlib.Core.List.{List}
+use mathlib.Core.Path.{sym, ap, _∙_}
 use lib.ListN.{length}
 use Rattle.digits.specs.Limits.{card}
 use Rattle.sheet.specs.declared.Plan.{Plan}

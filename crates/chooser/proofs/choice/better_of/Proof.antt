@@ -1,10 +1,6 @@
 -- `better_of` meets its contract: the plan is within the limit or not, and comes before the best or not.
-use mathlib.Core.Path.{_≡_, sym, ap, ap₂, _∙_}
-use mathlib.Core.Bool.{Bool, true, false, cond}
-use mathlib.Core.List.{List}
-use Prim.Native.Nat.{ℕ}
-use Rattle.sheet.specs.declared.Plan.{Plan}
-use Rattle.sheet.specs.Plan.{isWithin}
+use mathlib.Core.Path.{sym, ap, ap₂, _∙_}
+use mathlib.Core.Bool.{Bool, cond}
 use Rattle.chooser.specs.Choice.{costKey}
 use Rattle.chooser.specs.Lexicographic.{before}
 use borrow.Author.Needs.{needs}

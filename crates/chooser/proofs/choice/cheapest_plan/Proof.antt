@@ -1,13 +1,7 @@
 -- `cheapest_plan` meets its contract: the weights are those of the scalars.
-use mathlib.Core.Path.{_≡_, refl, ap, ap₂, _∙_}
-use mathlib.Core.List.{List}
-use Prim.Native.Nat.{ℕ}
+use mathlib.Core.Path.{_∙_}
 use Rattle.digits.specs.Bytes.{scalar-bits}
 use Rattle.digits.specs.Scalar.{scalar}
-use Rattle.sheet.specs.declared.Plan.the-variants.{I}
-use Rattle.chooser.specs.Cheapest.{plans, within}
-use Rattle.chooser.specs.Choice.{costKey}
-use Rattle.chooser.specs.Lexicographic.{least}
 use Rattle.chooser.proofs.Turns.{plan-by-weights}
 use borrow.Author.Needs.{needs}
 use Rattle.chooser.proofs.choice.cheapest_plan.Statement.{statement}

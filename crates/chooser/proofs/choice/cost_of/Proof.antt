@@ -1,7 +1,5 @@
 -- `cost_of` meets its contract, number by number.
-use mathlib.Core.Path.{_≡_, ap, _∙_}
-use mathlib.Core.List.{_∷_, []}
-use Prim.Native.Nat.{ℕ, _+_, _-_}
+use Prim.Native.Nat.{_-_}
 use Rattle.chooser.specs.Choice.{costKey}
 use borrow.Author.Needs.{needs}
 use Rattle.chooser.proofs.choice.cost_of.Statement.{statement}

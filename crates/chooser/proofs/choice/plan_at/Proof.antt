@@ -1,5 +1,4 @@
 -- `plan_at` meets its contract, by the numbers of the plans.
-use native.Mathlib.Omega.{arith}
 use borrow.Author.Needs.{needs}
 use Rattle.chooser.proofs.Numbers.{first-plan, other-plan}
 use Rattle.chooser.proofs.choice.plan_at.Statement.{statement}

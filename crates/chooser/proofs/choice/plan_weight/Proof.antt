@@ -1,6 +1,5 @@
 -- `plan_weight` meets its contract, plan by plan.
-use mathlib.Core.Path.{_≡_, sym, ap}
-use Prim.Native.Nat.{ℕ}
+use mathlib.Core.Path.{ap}
 use native.Mathlib.Omega.{arith}
 use Rattle.sheet.specs.declared.Plan.{Plan}
 use Rattle.chooser.specs.Choice.{planWeight}

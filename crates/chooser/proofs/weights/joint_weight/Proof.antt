@@ -1,5 +1,5 @@
 -- `joint_weight` meets its contract: the buffers hold the columns, of which those that are not zero are counted.
-use mathlib.Core.Path.{_≡_, ap₂, _∙_}
+use mathlib.Core.Path.{ap₂, _∙_}
 use native.Mathlib.Omega.{arith}
 use borrow.Author.Needs.{needs}
 use lib.ListN.{replicate}

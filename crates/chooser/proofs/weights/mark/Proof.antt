@@ -1,5 +1,5 @@
 -- `mark` meets its contract, by the test.
-use mathlib.Core.Path.{_≡_, sym, ap}
+use mathlib.Core.Path.{sym, ap}
 use Rattle.chooser.specs.Weights.{marked}
 use Rattle.chooser.proofs.Counts.{marked-one}
 use Rattle.chooser.proofs.weights.mark.Statement.{statement}

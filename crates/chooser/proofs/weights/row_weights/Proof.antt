@@ -1,8 +1,7 @@
 -- `row_weights` meets its contract. The loop's invariant: the weights of the first i windows stand, and zeros behind them.
 use mathlib.Core.Path.{_≡_, sym, ap, _∙_}
-use Prim.Native.Nat.{ℕ, _-_, _≤_, _<_}
+use Prim.Native.Nat.{_-_, _≤_, _<_}
 use native.Mathlib.Omega.{arith}
-use borrow.Author.Needs.{needs}
 use Rattle.digits.specs.Scalar.{scalar}
 use Rattle.chooser.specs.Weights.{rowWeights}
 use Rattle.chooser.proofs.Windows.{begun, begun-none, begun-more, begun-all, weights-length, weights-at}

@@ -1,17 +1,17 @@
 -- `byte_of` meets its contract: the machine reads each signed number back as it is, and a negative digit plus 256 is its byte.
-use mathlib.Core.Path.{_≡_, refl, sym, ap, subst, _∙_}
-use mathlib.Core.Bool.{Bool, true, false}
-use Prim.Native.Nat.{ℕ, zero, suc, _+_, _-_, _<_, _≤_}
+use mathlib.Core.Path.{_≡_, sym, ap, subst, _∙_}
+use mathlib.Core.Bool.{true, false}
+use Prim.Native.Nat.{suc, _+_, _-_, _<_}
 use native.Mathlib.Omega.{arith}
 use lib.Dec.{T}
 use borrow.Author.Tests.{ltb-true}
 use lib.IntN.{ℤ, pos, negsuc, _+ℤ_, natAbs, subℕ}
-use lib.Signed.{ltZ, mag, nonNeg}
+use lib.Signed.{ltZ, nonNeg}
 use mir.Syntax.{w8, w16}
 use mir.Val.{SFits, Fits, toZ, ofZ}
 use mir.Facts.{toZ-ofZ, sfits-widen}
 use Rattle.digits.specs.Byte.{byteOf}
-use Rattle.digits.specs.Integer.{up, down, show-eq, up-subℕ}
+use Rattle.digits.specs.Integer.{show-eq, up-subℕ}
 use Rattle.digits.proofs.byte.byte_of.Statement.{statement}
 use Rattle.digits.proofs.byte.byte_of.Tie as tie
 use Rattle.digits.proofs.byte.byte_of.Reads as reads

@@ -1,8 +1,7 @@
 -- `opening_of` meets its contract: the first line ends at the first line feed.
-use native.Mathlib.Omega.{arith}
 use mathlib.Core.Path.{sym, _∙_}
 use lib.Seq.{length-take-le}
-use Rattle.lines.proofs.HeaderRead.{opened, unheaded, unended}
+use Rattle.lines.proofs.FirstLine.{opened, unheaded, unended}
 use borrow.Author.Needs.{needs}
 use Rattle.lines.proofs.header.opening_of.Statement.{statement}
 use Rattle.lines.proofs.header.opening_of.Tie as tie

@@ -10,7 +10,7 @@ use Rattle.sheet.specs.Spelling.{lineFeed, readLine}
 use Rattle.sheet.specs.Field.{First}
 use Rattle.lines.specs.Coded.{Doubles, coded}
 use Rattle.sheet.proofs.CutTurns.{to-end}
-use Rattle.lines.proofs.LineRead.{line-inside, line-past, took-line, took-last, took-double}
+use Rattle.lines.proofs.LineAt.{line-inside, line-past, took-line, took-last, took-double}
 use borrow.Author.Needs.{needs}
 use Rattle.lines.proofs.line.line_at.Statement.{statement}
 use Rattle.lines.proofs.line.line_at.Tie as tie

@@ -1,8 +1,7 @@
 -- `serve` meets its contract: the scalars of the figures, the answer of the cheapest call, and what is printed for it.
-use mathlib.Core.Path.{sym, ap, _∙_}
+use mathlib.Core.Path.{sym, ap}
 use native.Mathlib.Omega.{arith}
-use Prim.Native.Nat.{_≤_}
-use lib.ListN.{length, take}
+use lib.ListN.{take}
 use lib.Seq.{length-take-le}
 use Rattle.sheet.specs.Numeral.{followed}
 use Rattle.writer.specs.Call.{number}

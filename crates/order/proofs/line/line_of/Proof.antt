@@ -1,6 +1,5 @@
 -- `line_of` meets its contract, by the place of the first line feed.
-use mathlib.Core.Path.{_≡_, sym}
-use native.Mathlib.Omega.{arith}
+use mathlib.Core.Path.{sym}
 use lib.Seq.{length-take-le}
 use Rattle.order.proofs.Lines.{line-only, line-none}
 use borrow.Author.Needs.{needs}

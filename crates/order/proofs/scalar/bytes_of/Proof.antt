@@ -1,9 +1,8 @@
 -- `bytes_of` meets its contract. The loop's invariant: the bytes so far are the number of two figures for each of them.
-use mathlib.Core.Path.{_≡_, refl, ap, _∙_}
-use mathlib.Core.List.{List, _++_}
-use Prim.Native.Nat.{ℕ, _+_, _-_, _*_, _/_, _%_, _<_, _≤_}
+use mathlib.Core.Path.{_≡_, refl, _∙_}
+use mathlib.Core.List.{_++_}
+use Prim.Native.Nat.{_+_, _-_, _/_, _%_, _≤_}
 use native.Mathlib.Omega.{arith}
-use borrow.Author.Needs.{needs}
 use lib.ListN.{length, replicate}
 use Rattle.order.proofs.Hexadecimal.{Made, made-none, made-more, made-all, padded-figures, padded-length}
 use Rattle.order.proofs.scalar.bytes_of.Statement.{statement}

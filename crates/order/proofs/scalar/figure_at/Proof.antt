@@ -1,5 +1,5 @@
 -- `figure_at` meets its contract: a zero in front, a figure of the field, or 0 past its end.
-use mathlib.Core.Path.{_≡_, sym, ap, _∙_}
+use mathlib.Core.Path.{sym, ap, _∙_}
 use Prim.Native.Nat.{_<_}
 use native.Mathlib.Omega.{arith}
 use borrow.Author.Needs.{needs}

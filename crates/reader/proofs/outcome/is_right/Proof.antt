@@ -19,8 +19,8 @@ use Rattle.reader.specs.declared.limbs.Sum.{Sum}
 use Rattle.sheet.proofs.FieldTurns.{numeral-parts}
 use Rattle.reader.specs.Limbs.{value}
 use Rattle.lines.specs.Coded.{headField, ScalarIn}
-use Rattle.lines.proofs.HeaderRead.{head-scalars}
-use Rattle.reader.proofs.ResultTurns.{is-number}
+use Rattle.lines.proofs.FirstLine.{head-scalars}
+use Rattle.reader.proofs.SumTurns.{is-number}
 use borrow.Author.Needs.{needs}
 use Rattle.reader.proofs.outcome.is_right.Statement.{statement}
 use Rattle.reader.proofs.outcome.is_right.Tie as tie

@@ -7,7 +7,8 @@ use lib.ListN.{length}
 use Rattle.sheet.specs.Plan.{Point}
 use Rattle.reader.specs.Accumulator.{Loaded, Added}
 use Rattle.lines.proofs.Was.{was}
-use Rattle.reader.proofs.ResultTurns.{Held, roomy, point-back, some-place, held-start, held-end, held-table, held-last, held-other, held-load, held-add, held-double, held-store}
+use Rattle.reader.proofs.ResultTurns.{Held, roomy, some-place, held-start, held-end, held-table, held-last, held-other, held-load, held-add, held-double, held-store}
+use Rattle.reader.proofs.SumTurns.{point-back}
 use Rattle.reader.proofs.outcome.result_of.Statement.{statement}
 use Rattle.reader.proofs.outcome.result_of.Tie as tie
 

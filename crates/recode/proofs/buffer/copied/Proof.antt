@@ -1,9 +1,8 @@
 -- `copied` meets its contract. The loop's invariant: the last i bytes stand reversed at the front, and zeros above.
 use mathlib.Core.Path.{_≡_, sym, ap, _∙_}
-use mathlib.Core.List.{List}
-use Prim.Native.Nat.{ℕ, _≤_, _<_, _-_}
+use Prim.Native.Nat.{_≤_, _<_, _-_}
 use native.Mathlib.Omega.{arith}
-use lib.ListN.{length, getD, set, replicate, length-set}
+use lib.ListN.{length}
 use Rattle.recode.proofs.Turned.{turned, turned-none, turned-more, turned-all}
 use Rattle.recode.proofs.buffer.copied.Statement.{statement}
 use Rattle.recode.proofs.buffer.copied.Tie as tie

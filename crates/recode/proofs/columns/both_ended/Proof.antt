@@ -1,5 +1,5 @@
 -- `both_ended` meets its contract, by that of `ended`.
-use mathlib.Core.Path.{_≡_, sym, subst}
+use mathlib.Core.Path.{sym, subst}
 use mathlib.Core.Logic.{inl, inr}
 use borrow.Author.Needs.{needs}
 use lib.Dec.{T}

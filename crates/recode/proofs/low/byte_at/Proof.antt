@@ -1,5 +1,5 @@
 -- `byte_at` meets its contract: an element of a slice of bytes is below 256.
-use mathlib.Core.Path.{_≡_, refl, sym}
+use mathlib.Core.Path.{refl, sym}
 use native.Mathlib.Omega.{arith}
 use borrow.Author.Needs.{needs}
 use lib.ListN.{List·getD-eq-default}

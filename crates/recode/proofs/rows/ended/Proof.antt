@@ -1,6 +1,5 @@
 -- `ended` meets its contract, by the two tests.
-use mathlib.Core.Path.{_≡_, sym, subst}
-use mathlib.Core.Bool.{Bool}
+use mathlib.Core.Path.{sym, subst}
 use borrow.Author.Needs.{needs}
 use lib.Dec.{T}
 use Rattle.recode.proofs.rows.ended.Statement.{statement}

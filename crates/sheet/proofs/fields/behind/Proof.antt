@@ -1,9 +1,9 @@
 -- `behind` meets its contract: the part that starts at `at` ends at its first comma.
 use native.Mathlib.Omega.{arith}
-use mathlib.Core.Path.{subst, ap}
+use mathlib.Core.Path.{subst}
 use mathlib.Core.List.{List}
-use Prim.Native.Nat.{ℕ, _+_, _<_, _≤_}
-use lib.ListN.{length, drop, length-drop}
+use Prim.Native.Nat.{ℕ}
+use lib.ListN.{drop, length-drop}
 use Rattle.sheet.specs.Spelling.{comma}
 use Rattle.sheet.specs.Field.{First}
 use Rattle.sheet.proofs.CutTurns.{behind-found, behind-none, to-end}

@@ -1,7 +1,7 @@
 -- `count` meets its contract. The loop's invariant: the commas passed and the fields from i on are all the fields.
 use native.Mathlib.Omega.{arith}
 use borrow.Author.Needs.{needs}
-use mathlib.Core.Path.{_≡_, refl}
+use mathlib.Core.Path.{_≡_}
 use mathlib.Core.Logic.{⊎-elim}
 use Prim.Native.Nat.{_+_, _<_, _≤_, _-_}
 use lib.ListN.{length, drop}

@@ -3,7 +3,7 @@ use native.Mathlib.Omega.{arith}
 use borrow.Author.Needs.{needs}
 use mathlib.Core.Path.{_≡_, refl, sym, ap, subst, _∙_}
 use mathlib.Core.List.{List, []}
-use Prim.Native.Nat.{ℕ, suc, _+_, _≤_, _<_, _-_}
+use Prim.Native.Nat.{ℕ, suc, _+_, _≤_, _-_}
 use lib.ListN.{length, getD, drop, take, length-drop}
 use Rattle.sheet.specs.Spelling.{comma, cut}
 use Rattle.sheet.specs.Field.{First}

@@ -1,7 +1,6 @@
 -- `find` meets its contract. The loop's invariant: the bytes below i are others.
 use native.Mathlib.Omega.{arith}
 use borrow.Author.Needs.{needs}
-use mathlib.Core.Path.{_≡_, refl}
 use Prim.Native.Nat.{_≤_, _-_}
 use lib.ListN.{length, take}
 use Rattle.sheet.specs.Every.{empty}

@@ -1,10 +1,10 @@
 -- `are_figures` meets its contract. The loop's invariant: the bytes from i on are figures exactly if all are.
 use native.Mathlib.Omega.{arith}
 use borrow.Author.Needs.{needs}
-use mathlib.Core.Path.{_≡_, refl, sym, ap, subst, _∙_}
+use mathlib.Core.Path.{_≡_, refl, subst, _∙_}
 use Prim.Native.Nat.{ℕ, _≤_, _<_, _-_}
-use lib.ListN.{length, getD, drop}
-use Rattle.sheet.specs.Numeral.{worth, figures}
+use lib.ListN.{length, drop}
+use Rattle.sheet.specs.Numeral.{figures}
 use Rattle.sheet.proofs.FieldTurns.{figures-turn, figures-stop, figures-end}
 use Rattle.sheet.proofs.figures.are_figures.Statement.{statement}
 use Rattle.sheet.proofs.figures.are_figures.Tie as tie

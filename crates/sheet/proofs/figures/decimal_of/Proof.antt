@@ -1,7 +1,7 @@
 -- `decimal_of` meets its contract: what is a numeral has its value.
 use native.Mathlib.Omega.{arith}
 use mathlib.Core.Path.{_≡_, sym, ap, _∙_}
-use mathlib.Core.Bool.{Bool, true, false}
+use mathlib.Core.Bool.{true, false}
 use Prim.Native.Nat.{ℕ, min}
 use borrow.Author.Needs.{needs}
 use Rattle.sheet.specs.Field.{decimalOf, isNumeral}

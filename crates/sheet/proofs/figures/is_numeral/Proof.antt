@@ -1,5 +1,5 @@
 -- `is_numeral` meets its contract, by its tests.
-use mathlib.Core.Path.{_≡_, sym, _∙_}
+use mathlib.Core.Path.{sym, _∙_}
 use Rattle.sheet.proofs.FieldTurns.{none-empty, none-long, none-padded, numeral-figures}
 use borrow.Author.Needs.{needs}
 use Rattle.sheet.proofs.figures.is_numeral.Statement.{statement}

@@ -1,12 +1,12 @@
 -- `value_of` meets its contract. The loop's invariant: the number so far, with the figures from i on behind it, is the whole number.
 use native.Mathlib.Omega.{arith}
 use borrow.Author.Needs.{needs}
-use mathlib.Core.Path.{_≡_, refl, sym, ap, subst, _∙_}
+use mathlib.Core.Path.{_≡_, refl, ap, _∙_}
 use mathlib.Core.Bool.{true}
 use Prim.Native.Nat.{ℕ, _+_, _*_, _≤_, _<_, _-_, _^_}
 use native.Mathlib.Nat.{pow-le-pow-right}
-use lib.ListN.{length, getD, drop}
-use Rattle.sheet.specs.Numeral.{worth, figures, followed}
+use lib.ListN.{length, drop}
+use Rattle.sheet.specs.Numeral.{figures, followed}
 use Rattle.sheet.proofs.FieldTurns.{figure-at, followed-turn, followed-end, power-turn}
 use Rattle.sheet.proofs.figures.value_of.Statement.{statement}
 use Rattle.sheet.proofs.figures.value_of.Tie as tie

@@ -9,7 +9,6 @@ use lib.ListN.{length, drop, drop-of-length-le}
 use Rattle.digits.specs.Limits.{card}
 use Rattle.sheet.specs.Spelling.{lines}
 use Rattle.sheet.specs.Cut.{lines-none}
-use Rattle.lines.specs.declared.line.Line.{Line}
 use Rattle.survey.specs.State.{Counted, isPlaced, misplacedFrom}
 use Rattle.survey.proofs.StateTurns.{out-of-place}
 use Rattle.survey.proofs.ScanTurns.{Going, going-start, going-same, going-turn, going-end, counted-turn}

@@ -1,5 +1,5 @@
 -- `comes_before` meets its contract, number by number.
-use mathlib.Core.Path.{_≡_, sym, _∙_}
+use mathlib.Core.Path.{sym, _∙_}
 use mathlib.Core.List.{_∷_, []}
 use Rattle.chooser.specs.Lexicographic.{before-differs, before-agrees, before-last}
 use Rattle.chooser.proofs.choice.Cost.comes_before.Statement.{statement}

@@ -1,0 +1,76 @@
+-- The line at a place of a sheet: up to the first line feed from there on.
+use mathlib.Core.Path.{_≡_, refl, sym, ap, subst, _∙_}
+use mathlib.Core.Logic.{_≢_}
+use mathlib.Core.List.{List, [], _∷_, _++_}
+use Prim.Native.Nat.{ℕ, suc, _+_, _≤_, _<_}
+use native.Mathlib.Omega.{arith}
+use lib.ListN.{length, getD, take, drop, length-drop}
+use lib.Seq.{drop-cons, take-suc, split-at, drop-drop}
+use Rattle.digits.specs.Limits.{card}
+use Rattle.sheet.specs.Line as spec
+use Rattle.sheet.specs.Line.{double, misspelled}
+use Rattle.sheet.specs.Spelling.{lineFeed, cut, readBehind, readLine, lines}
+use Rattle.sheet.specs.Cut.{Lacks, lines-none, lines-more, lines-last}
+use Rattle.sheet.specs.Every.{empty}
+use Rattle.sheet.specs.Field.{First}
+use Rattle.sheet.proofs.CutTurns.{first-all, lacks-turn}
+use Rattle.lines.specs.Coded.{coded, Doubles, Took, Past}
+use Rattle.lines.specs.declared.line.Line.{Line}
+use Rattle.lines.specs.declared.line.Line.the-variants.{Double, Other}
+
+-- the line at a place
+module _ (s : List ℕ) (at n : ℕ) (f : First lineFeed (drop at s) n) where
+  pub lines-at : n < length (drop at s) → lines card (drop at s) ≡ readLine card (take n (drop at s)) ∷ lines card (drop (at + n + 1) s)
+  lines-at w =
+      let next : at + suc n ≡ at + n + 1 = omega arith in
+      ap (lines card) (split-at (drop at s) n 0 w ∙ ap (λ (c : ℕ). take n (drop at s) ++ c ∷ drop (suc n) (drop at s)) (f .found w))
+      ∙ lines-more card (f .lacks) (drop (suc n) (drop at s))
+      ∙ ap (λ (t : List ℕ). readLine card (take n (drop at s)) ∷ lines card t) (drop-drop (suc n) at s ∙ ap (λ (m : ℕ). drop m s) next)
+
+  module _ (h : at < length s) where
+    pub lines-end : length (drop at s) ≤ n → lines card (drop at s) ≡ misspelled ∷ lines card (drop (length s) s)
+    lines-end w =
+        let here : drop at s ≡ getD s at 0 ∷ drop (suc at) s = drop-cons s at 0 h in
+        ap (lines card) here
+        ∙ lines-last card (subst (Lacks lineFeed) here (first-all f w))
+        ∙ ap (λ (t : List spec.Line). misspelled ∷ t) (sym (lines-none card))
+        ∙ ap (λ (t : List ℕ). misspelled ∷ lines card t) (sym (lib.Seq.drop-length s))
+
+    pub took-line : n < length (drop at s) → (l : Line) → l ≡ coded (readLine card (take n (drop at s))) → Took s at l (at + n + 1)
+    took-line w l e =
+        record {
+          meant = readLine card (take n (drop at s));
+          is = e;
+          rest = lines-at w;
+          later = omega arith;
+          within = omega (arith, length-drop at s);
+        }
+
+    pub took-last : length (drop at s) ≤ n → Took s at Other (length s)
+    took-last w = record { meant = misspelled; is = refl; rest = lines-end w; later = h; within = omega arith }
+
+-- a D line at a place
+double-alone : readLine card (68 ∷ []) ≡ double
+unfolding readLine readBehind cut
+double-alone = refl
+
+pub took-double : (s : List ℕ) (at : ℕ) → at < length s → Doubles (drop at s) → Took s at Double (at + 2)
+took-double s at h d =
+    let some : 0 < length (drop at s) = omega (arith, d .long) in
+    let one : take 1 (drop at s) ≡ 68 ∷ [] = take-suc (drop at s) 0 0 some ∙ ap (λ (c : ℕ). c ∷ []) (d .letter) in
+    let other : getD (drop at s) 0 0 ≢ lineFeed = λ e. absurd (omega (arith, e, d .letter)) in
+    let f : First lineFeed (drop at s) 1 = record { most = omega arith; lacks = lacks-turn lineFeed (drop at s) 0 some other empty; found = λ k. d .end } in
+    let next : at + 1 + 1 ≡ at + 2 = omega arith in
+    subst (Took s at Double) next
+    (took-line s at 1 f h (omega (arith, d .long)) Double (ap coded (sym double-alone ∙ ap (readLine card) (sym one))))
+
+-- a place of the sheet, and one past its end
+abbrev Found : List ℕ → ℕ → Line → ℕ → Type 0
+Found s at l next = (at < length s → Took s at l next) × (length s ≤ at → Past s l next)
+
+module _ {s : List ℕ} {at next : ℕ} {l : Line} where
+  pub line-inside : Took s at l next → Found s at l next
+  line-inside t = (λ h. t, λ h. absurd (omega (arith, t .later, t .within)))
+
+  pub line-past : length s ≤ at → l ≡ Other → next ≡ length s → Found s at l next
+  line-past h e f = (λ g. absurd (omega arith), λ g. record { is = e; end = f })
