@@ -17,14 +17,14 @@ Point = Column
 abbrev pub point : ℤ → ℤ → Point
 point a b = record { p = a; q = b }
 
--- the highest limit of slots
-abbrev pub mostSlots : ℕ
-mostSlots = 30
-
 -- the slots that a plan needs
 abbrev pub slots : Plan → ℕ
 slots J = 2
 slots (I m1 m2) = (m1 + m2 - 2) / 2
+
+-- the highest limit of slots: those of the widest windows
+abbrev pub mostSlots : ℕ
+mostSlots = slots (I 31 31)
 
 -- a limit of slots is at most 30
 abbrev pub isLimit : ℕ → Bool
