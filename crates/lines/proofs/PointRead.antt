@@ -1,15 +1,15 @@
 -- What the parsers of digits and points answer, from the tests and the fields that they read.
-use mathlib.Core.Path.{_≡_, refl}
+use mathlib.Core.Path.{_≡_, refl, ap}
 use mathlib.Core.Logic.{_≢_}
 use mathlib.Core.Bool.{true}
 use mathlib.Core.List.{List, [], _∷_}
 use mathlib.Core.Option.{Option, none, some}
-use Prim.Native.Nat.{ℕ, zero, suc}
+use Prim.Native.Nat.{ℕ, zero, suc, _+_, _*_, _≤_, _<_}
 use native.Mathlib.Omega.{arith}
 use lib.IntN.{ℤ}
 use lib.ListN.{length, getD, drop}
-use borrow.Author.Tests.{eq-eqb, ne-eqb}
-use Rattle.sheet.specs.Numeral.{number}
+use borrow.Author.Tests.{eq-eqb, ne-eqb, lt-ltb, le-ltb, le-leb, lt-leb}
+use Rattle.sheet.specs.Numeral.{worth, figures, followed, number}
 use Rattle.sheet.specs.Spelling.{plain, negative, readDigit, readPoint}
 use Rattle.sheet.specs.Field.{decimalOf}
 use Rattle.lines.specs.Coded.{optionOf, signed, codedDigit, codedPair}
@@ -21,6 +21,58 @@ use Rattle.lines.specs.declared.point.Pair as pair
 pub option-decimal : (o : Option ℕ) → optionOf (decimalOf o) ≡ o
 option-decimal none = refl
 option-decimal (some n) = refl
+
+-- ── one or two figures ──────────────────────────────────────────────────────────────────────
+
+module _ (c : ℕ) where
+  pub one-is : worth c < 10 → number 10 2 (c ∷ []) ≡ some (worth c)
+  unfolding number figures followed
+  one-is h = rw (lt-ltb (worth c) 10 h) (ap some (omega arith))
+
+  pub one-not : 10 ≤ worth c → number 10 2 (c ∷ []) ≡ none
+  unfolding number figures
+  one-not h = rw (le-ltb (worth c) 10 h)
+
+  module _ (d : ℕ) where
+    pub two-padded : c ≡ 48 → number 10 2 (c ∷ d ∷ []) ≡ none
+    unfolding number
+    two-padded e = rw (eq-eqb c 48 e)
+
+    module _ (n : c ≢ 48) where
+      pub two-first : 9 < worth c → number 10 2 (c ∷ d ∷ []) ≡ none
+      unfolding number figures
+      two-first h = rw (ne-eqb c 48 n, le-ltb (worth c) 10 (omega arith))
+
+      module _ (f : worth c ≤ 9) where
+        pub two-second : 9 < worth d → number 10 2 (c ∷ d ∷ []) ≡ none
+        unfolding number figures
+        two-second h = rw (ne-eqb c 48 n, lt-ltb (worth c) 10 (omega arith), le-ltb (worth d) 10 (omega arith))
+
+        pub two-are : worth d ≤ 9 → number 10 2 (c ∷ d ∷ []) ≡ some (10 * worth c + worth d)
+        unfolding number figures followed
+        two-are h = rw (ne-eqb c 48 n, lt-ltb (worth c) 10 (omega arith), lt-ltb (worth d) 10 (omega arith)) (ap some (omega arith))
+
+pub one-byte : (s : List ℕ) → length s ≡ 1 → s ≡ getD s 0 0 ∷ []
+one-byte [] e = absurd (omega arith)
+one-byte (c ∷ []) e = refl
+one-byte (c ∷ d ∷ s) e = absurd (omega (arith, e))
+
+pub two-bytes : (s : List ℕ) → length s ≡ 2 → s ≡ getD s 0 0 ∷ getD s 1 0 ∷ []
+two-bytes [] e = absurd (omega arith)
+two-bytes (c ∷ []) e = absurd (omega arith)
+two-bytes (c ∷ d ∷ []) e = refl
+two-bytes (c ∷ d ∷ x ∷ s) e = absurd (omega (arith, e))
+
+pub no-size : (s : List ℕ) → length s ≢ 1 → length s ≢ 2 → number 10 2 s ≡ none
+unfolding number
+no-size [] a b = refl
+no-size (c ∷ []) a b = absurd (a refl)
+no-size (c ∷ d ∷ []) a b = absurd (b refl)
+no-size (c ∷ d ∷ x ∷ s) a b =
+    let h : 2 < length (c ∷ d ∷ x ∷ s) = omega arith in
+    rw (le-leb 1 (length (c ∷ d ∷ x ∷ s)) (omega arith), lt-leb (length (c ∷ d ∷ x ∷ s)) 2 h)
+
+-- ── digits and points ───────────────────────────────────────────────────────────────────────
 
 -- a digit
 pub digit-some : (o : Option ℤ) (d : Signed) → codedDigit o ≡ digit.the-variants.Is d → (z : ℤ) × (o ≡ some z) × (d ≡ signed z)

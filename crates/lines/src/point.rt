@@ -1,5 +1,7 @@
 ghost use mathlib.Core.Path.{_≡_};
 ghost use mathlib.Core.List.{[], _∷_};
+ghost use Rattle.sheet.specs.Field.{decimalOf};
+ghost use Rattle.sheet.specs.Numeral.{number};
 ghost use Rattle.sheet.specs.Spelling.{readDigit, readPoint, plain, negative};
 ghost use Rattle.lines.specs.Coded.{optionOf, codedDigit, codedPair};
 use sheet::figures::Decimal;
@@ -59,18 +61,60 @@ fn negative(size: Decimal) -> Digit
     }
 }
 
+// The decimal of one figure.
+fn one_figure(byte: u8) -> Decimal
+    ensures { λ r. ⌜ r ≡ decimalOf (number 10 2 (byte ∷ [])) ⌝ }
+{
+    let figure = sheet::figures::worth_of(byte);
+    if figure < 10 {
+        return Decimal::Is(figure);
+    }
+    Decimal::None
+}
+
+// The decimal of two figures, the first of which is not 0.
+fn two_figures(first: u8, second: u8) -> Decimal
+    ensures { λ r. ⌜ r ≡ decimalOf (number 10 2 (first ∷ second ∷ [])) ⌝ }
+{
+    let high = sheet::figures::worth_of(first);
+    let low = sheet::figures::worth_of(second);
+    if first == b'0' {
+        return Decimal::None;
+    }
+    if 9 < high {
+        return Decimal::None;
+    }
+    if 9 < low {
+        return Decimal::None;
+    }
+    Decimal::Is(10 * high + low)
+}
+
+// A decimal of one or two figures.
+fn size_of(field: &[u8]) -> Decimal
+    ensures { λ r. ⌜ r ≡ decimalOf (number 10 2 (now (field .entry))) ⌝ }
+{
+    if field.len() == 1 {
+        return one_figure(field[0]);
+    }
+    if field.len() == 2 {
+        return two_figures(field[0], field[1]);
+    }
+    Decimal::None
+}
+
 // A decimal of one or two figures, with a minus if negative.
-pub fn digit_of(field: &[u8]) -> Digit
+fn digit_of(field: &[u8]) -> Digit
     ensures { λ r. ⌜ r ≡ codedDigit (readDigit (now (field .entry))) ⌝ }
 {
     if field.len() == 0 {
         return Digit::None;
     }
     if field[0] == b'-' {
-        let size = sheet::figures::decimal_of(&field[1..], 2);
+        let size = size_of(&field[1..]);
         return negative(size);
     }
-    let size = sheet::figures::decimal_of(field, 2);
+    let size = size_of(field);
     plain(size)
 }
 
