@@ -21,9 +21,9 @@ use Rattle.survey.specs.declared.state.State.{State}
 use Rattle.survey.specs.declared.questions.Survey.{Survey}
 use Rattle.survey.specs.declared.questions.Survey.the-variants.{Missed, Met}
 
-pub too-long : (s : List ℕ) → 16384 < length s → answer card s ≡ refused 5 0
+pub too-long : (s : List ℕ) → 16384 < length s → Surveyed s (Missed 5 0)
 unfolding answer tooLong
-too-long s h = rw (lt-leb (length s) 16384 h)
+too-long s h = (rw (lt-leb (length s) 16384 h), omega arith)
 
 short-enough : (s : List ℕ) → length s ≤ 16384 → answer card s ≡ judged card (heading (lines card s)) (lines card s)
 unfolding answer tooLong
@@ -33,8 +33,8 @@ out-of-place : (ls : List Line) (n : ℕ) → misplaced ls ≡ some n → judged
 unfolding judged
 out-of-place ls n e = rw e
 
-pub misplaced-line : (s : List ℕ) (n : ℕ) → length s ≤ 16384 → misplaced (lines card s) ≡ some n → answer card s ≡ refused 6 n
-misplaced-line s n h e = short-enough s h ∙ out-of-place (lines card s) n e
+pub misplaced-line : (s : List ℕ) (n : ℕ) → length s ≤ 16384 → misplaced (lines card s) ≡ some n → Surveyed s (Missed 6 n)
+misplaced-line s n h e = (short-enough s h ∙ out-of-place (lines card s) n e, omega arith)
 
 pub left-most : (k : ℕ) (ls : List Line) → leftAfter k ls ≤ k
 unfolding leftAfter
@@ -60,18 +60,18 @@ module _ {ls : List Line} {u : header-of.Header} {r : State} (a : Answered ls u 
   q8 : disallowed (plan (heading ls)) ls ≡ found (r .steps .fault)
   q8 = ap (λ (h : Header). disallowed (plan h) ls) head ∙ a .disallowed
 
-  pub answer-7 : (n : ℕ) → found (r .tables .fault) ≡ some n → judged card (heading ls) ls ≡ refused 7 n
+  pub answer-7 : (n : ℕ) → found (r .tables .fault) ≡ some n → JudgedBy ls (Missed 7 n)
   unfolding judged
-  answer-7 n e = rw (a .misplaced, q7 ∙ e)
+  answer-7 n e = (rw (a .misplaced, q7 ∙ e), omega arith)
 
   module _ (e7 : found (r .tables .fault) ≡ none) where
-    pub answer-8 : (n : ℕ) → found (r .steps .fault) ≡ some n → judged card (heading ls) ls ≡ refused 8 n
+    pub answer-8 : (n : ℕ) → found (r .steps .fault) ≡ some n → JudgedBy ls (Missed 8 n)
     unfolding judged
-    answer-8 n e = rw (a .misplaced, q7 ∙ e7, q8 ∙ e)
+    answer-8 n e = (rw (a .misplaced, q7 ∙ e7, q8 ∙ e), omega arith)
 
-    pub answer-9 : found (r .steps .fault) ≡ none → (n : ℕ) → found (r .doubles .fault) ≡ some n → judged card (heading ls) ls ≡ refused 9 n
+    pub answer-9 : found (r .steps .fault) ≡ none → (n : ℕ) → found (r .doubles .fault) ≡ some n → JudgedBy ls (Missed 9 n)
     unfolding judged
-    answer-9 e8 n e = rw (a .misplaced, q7 ∙ e7, q8 ∙ e8, a .excess ∙ e)
+    answer-9 e8 n e = (rw (a .misplaced, q7 ∙ e7, q8 ∙ e8, a .excess ∙ e), omega arith)
 
   module _ (f : Faultless r) where
     rest : judged card (heading ls) ls ≡ ask 10 (miscounted (heading ls) ls) (last ls)
@@ -87,14 +87,15 @@ module _ {ls : List Line} {u : header-of.Header} {r : State} (a : Answered ls u 
     doubles =
         ap₂ eqb (ap (λ (h : Header). h .doublings) head ∙ sym (ap (λ (h : header-of.Header). h .doublings) (a .coded))) (a .doublings)
 
-    pub answer-additions : u .additions ≢ r .additions → judged card (heading ls) ls ≡ refused 10 1
+    pub answer-additions : u .additions ≢ r .additions → JudgedBy ls (Missed 10 1)
     unfolding miscounted
-    answer-additions n = rw (rest, adds ∙ ne-eqb (u .additions) (r .additions) n)
+    answer-additions n = (rw (rest, adds ∙ ne-eqb (u .additions) (r .additions) n), omega arith)
 
     module _ (e : u .additions ≡ r .additions) where
-      pub answer-doublings : u .doublings ≢ r .doublings → judged card (heading ls) ls ≡ refused 10 1
+      pub answer-doublings : u .doublings ≢ r .doublings → JudgedBy ls (Missed 10 1)
       unfolding miscounted
-      answer-doublings n = rw (rest, adds ∙ eq-eqb (u .additions) (r .additions) e, doubles ∙ ne-eqb (u .doublings) (r .doublings) n)
+      answer-doublings n =
+          (rw (rest, adds ∙ eq-eqb (u .additions) (r .additions) e, doubles ∙ ne-eqb (u .doublings) (r .doublings) n), omega arith)
 
       met : u .doublings ≡ r .doublings → judged card (heading ls) ls ≡ last ls
       unfolding miscounted
@@ -106,6 +107,6 @@ module _ {ls : List Line} {u : header-of.Header} {r : State} (a : Answered ls u 
 
 -- a sheet that is short enough
 pub whole-sheet : (s : List ℕ) {u : header-of.Header} {r : State} (out : Survey) → length s ≤ 16384 → Answered (lines card s) u r → JudgedBy (lines card s) out → Surveyed s out
-whole-sheet s (Missed number line) h a j = short-enough s h ∙ j
+whole-sheet s (Missed number line) h a j = (short-enough s h ∙ j .0, j .1)
 whole-sheet s (Met doubles) h a j =
     record { short = h; head = a .h; rest = a .rest; heads = a .is; left = j; answers = short-enough s h ∙ j .answers }

@@ -25,7 +25,7 @@ pub record LastLeft (ls : List Line) (n : ℕ) : Type 0 where
 
 -- questions 6 to 10
 abbrev pub JudgedBy : List Line → Survey → Type 0
-JudgedBy ls (Missed number line) = judged card (heading ls) ls ≡ refused number line
+JudgedBy ls (Missed number line) = (judged card (heading ls) ls ≡ refused number line) × (number ≤ 10)
 JudgedBy ls (Met doubles) = LastLeft ls doubles
 
 -- of a sheet with n D lines, only question 11 is left
@@ -39,5 +39,5 @@ pub record Clear (s : List ℕ) (n : ℕ) : Type 0 where
 
 -- questions 5 to 10
 abbrev pub Surveyed : List ℕ → Survey → Type 0
-Surveyed s (Missed number line) = answer card s ≡ refused number line
+Surveyed s (Missed number line) = (answer card s ≡ refused number line) × (number ≤ 10)
 Surveyed s (Met doubles) = Clear s doubles

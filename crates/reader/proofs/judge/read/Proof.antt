@@ -19,7 +19,7 @@ result-question-requires : tie.Need-result-question-requires
 result-question-requires c κs = subst (Surveyed (c .before .before .before .before .before .args .sheet .now)) (c .before .survey2 .given .1) (c .before .before .before .surveyed .ensures)
 
 returns : tie.Need-returns
-returns c = ap judgement (sym (subst (Surveyed (c .before .before .before .before .before .args .sheet .now)) (c .before .survey .given .1) (c .before .before .before .surveyed .ensures)))
+returns c = ap judgement (sym (subst (Surveyed (c .before .before .before .before .before .args .sheet .now)) (c .before .survey .given .1) (c .before .before .before .surveyed .ensures) .0))
 
 returns-2 : tie.Need-returns-2
 returns-2 c = search needs
