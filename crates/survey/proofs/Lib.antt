@@ -1,6 +1,8 @@
 -- Laws that the functions' proofs cite.
 pub mod TableRead
 pub mod Taken
+pub mod HeaderTurns
+pub mod PhaseTurns
 pub mod StateTurns
 pub mod ScanTurns
 pub mod Judged

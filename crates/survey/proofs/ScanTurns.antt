@@ -11,8 +11,8 @@ use Rattle.lines.specs.Coded.{codedHeader, openingOf}
 use Rattle.survey.specs.State.{found, earlier, misplacedFrom, offPlanFrom, disallowedIn, excessIn, leftAfter, Counted, Follows, Behind, placedIn, differsIn}
 use Rattle.survey.specs.Scan.{Reached, Scanned, Answered}
 use Rattle.survey.specs.declared.state.State.{State}
-use Rattle.survey.specs.declared.state.Phase.{Phase}
-use Rattle.survey.specs.declared.state.Phase.the-variants.{Tables, Steps, Ended}
+use Rattle.survey.specs.declared.phase.Phase.{Phase}
+use Rattle.survey.specs.declared.phase.Phase.the-variants.{Tables, Steps, Ended}
 use Rattle.survey.specs.declared.scan.Scan as scan
 use Rattle.lines.specs.declared.header.Header as header-of
 use Rattle.survey.proofs.Taken.{earlier-none}

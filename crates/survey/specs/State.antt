@@ -23,8 +23,8 @@ use Rattle.survey.specs.declared.table.Tables as tables-of
 use Rattle.survey.specs.declared.table.Counts as counts-of
 use Rattle.survey.specs.declared.steps.Steps as steps-of
 use Rattle.survey.specs.declared.steps.Doubles as doubles-of
-use Rattle.survey.specs.declared.state.Phase.{Phase}
-use Rattle.survey.specs.declared.state.Phase as phase
+use Rattle.survey.specs.declared.phase.Phase.{Phase}
+use Rattle.survey.specs.declared.phase.Phase as phase
 use Rattle.survey.specs.declared.state.State.{State}
 
 -- the line of a fault

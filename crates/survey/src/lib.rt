@@ -1,5 +1,7 @@
 // The first of the reader's two passes over a sheet: questions 5 to 10.
 mod fault;
+mod header;
+mod phase;
 mod questions;
 mod scan;
 mod state;

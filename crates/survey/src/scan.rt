@@ -5,7 +5,7 @@ ghost use Rattle.digits.specs.Limits.{card};
 ghost use Rattle.sheet.specs.Spelling.{lines};
 ghost use Rattle.survey.specs.State.{Counted};
 ghost use Rattle.survey.specs.Scan.{Scanned};
-use crate::state::Phase;
+use crate::phase::Phase;
 use crate::state::State;
 
 // The state at the end of the lines, or the first line out of place.
@@ -37,7 +37,7 @@ pub fn scan_from(sheet: &[u8], from: usize, start: State) -> Scan
         let taken = lines::line_at(sheet, at);
         let line = taken.line;
         let phase = state.phase;
-        if crate::state::is_placed(phase, line) {
+        if crate::phase::is_placed(phase, line) {
             let next = state.after(line);
             state = next;
             at = taken.next;

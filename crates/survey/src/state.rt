@@ -5,11 +5,10 @@ ghost use Prim.Native.Nat.{_+_, _≤_};
 ghost use Rattle.digits.specs.Limits.{card};
 ghost use Rattle.sheet.specs.Line as meant;
 ghost use Rattle.sheet.specs.Plan as plans;
-ghost use Rattle.sheet.specs.Plan.{slots};
-ghost use Rattle.sheet.specs.Questions.{windowed};
-ghost use Rattle.lines.specs.Coded.{kindOf, codedPoint, coded};
-ghost use Rattle.survey.specs.State.{planFor, isOnPlan, isBehindHeader, isBehindLoad, isPlaced, TablesClosed, Counted, Begins, Follows};
+ghost use Rattle.lines.specs.Coded.{codedPoint, coded};
+ghost use Rattle.survey.specs.State.{isPlaced, TablesClosed, Counted, Begins, Follows};
 use crate::fault::Fault;
+use crate::phase::Phase;
 use crate::steps::Doubles;
 use crate::steps::Steps;
 use crate::table::Tables;
@@ -26,13 +25,6 @@ const LOAD_ADDITIONS: usize = 0;
 
 const ADD_ADDITIONS: usize = 1;
 
-// What may stand next: T lines or L or E; D and A lines or E; nothing.
-pub enum Phase {
-    Tables,
-    Steps,
-    Ended,
-}
-
 // What the lines so far say to each question.
 pub struct State {
     pub plan: Plan,
@@ -43,80 +35,6 @@ pub struct State {
     pub doubles: Doubles,
     pub additions: usize,
     pub doublings: usize,
-}
-
-// The plan that a header names.
-fn plan_of(header: Header) -> Plan
-    ensures { λ r. ⌜ r ≡ planFor header ⌝ }
-{
-    if header.joint {
-        return Plan::J;
-    }
-    Plan::I(header.m1, header.m2)
-}
-
-// Whether the windows are odd, 1 to 31, for J both 1.
-fn is_windowed(joint: bool, m1: u32, m2: u32) -> bool
-    ensures { λ r. ⌜ r ≡ windowed (kindOf joint) m1 m2 ⌝ }
-{
-    if joint {
-        if m1 == 1 {
-            return m2 == 1;
-        }
-        return false;
-    }
-    if Plan::is_window(m1) {
-        return Plan::is_window(m2);
-    }
-    false
-}
-
-// Whether the windows are allowed and the slots are the plan's.
-fn is_on_plan(header: Header) -> bool
-    ensures { λ r. ⌜ r ≡ isOnPlan header ⌝ }
-{
-    if is_windowed(header.joint, header.m1, header.m2) {
-        let plan = plan_of(header);
-        return header.slots == plan.slots();
-    }
-    false
-}
-
-// Question 6 to a line: T, L or E behind the header and behind T; D, A or E behind L; nothing behind E.
-pub fn is_placed(phase: Phase, line: Line) -> bool
-    ensures { λ r. ⌜ r ≡ isPlaced phase line ⌝ }
-{
-    match phase {
-        Phase::Tables => is_behind_header(line),
-        Phase::Steps => is_behind_load(line),
-        Phase::Ended => false,
-    }
-}
-
-fn is_behind_header(line: Line) -> bool
-    ensures { λ r. ⌜ r ≡ isBehindHeader line ⌝ }
-{
-    match line {
-        Line::Table(_) => true,
-        Line::Load(_) => true,
-        Line::Double => false,
-        Line::Add(_) => false,
-        Line::End => true,
-        Line::Other => false,
-    }
-}
-
-fn is_behind_load(line: Line) -> bool
-    ensures { λ r. ⌜ r ≡ isBehindLoad line ⌝ }
-{
-    match line {
-        Line::Table(_) => false,
-        Line::Load(_) => false,
-        Line::Double => true,
-        Line::Add(_) => true,
-        Line::End => true,
-        Line::Other => false,
-    }
 }
 
 // The T lines at E: where there was no step, it is the line after them.
@@ -135,8 +53,8 @@ impl State {
     pub fn new(header: Header) -> State
         ensures { λ r. ⌜ Begins header r ⌝ }
     {
-        let plan = plan_of(header);
-        let met = is_on_plan(header);
+        let plan = crate::header::plan_of(header);
+        let met = crate::header::is_on_plan(header);
         let fault = Fault::Nowhere.or(met, 1);
         State {
             plan: plan,

@@ -2,7 +2,7 @@
 use native.Mathlib.Omega.{arith}
 use mathlib.Core.Path.{_≡_, refl, sym, _∙_}
 use Prim.Native.Nat.{ℕ}
-use Rattle.survey.specs.declared.state.Phase.the-variants.{Tables, Steps, Ended}
+use Rattle.survey.specs.declared.phase.Phase.the-variants.{Tables, Steps, Ended}
 use borrow.Author.Needs.{needs}
 use Rattle.survey.proofs.state.tables_at_end.Statement.{statement}
 use Rattle.survey.proofs.state.tables_at_end.Tie as tie

@@ -6,7 +6,8 @@ use lib.ListN.{drop}
 use Rattle.sheet.specs.Plan.{tables}
 use Rattle.sheet.specs.Line.{add}
 use Rattle.survey.specs.State.{earlier, found}
-use Rattle.survey.proofs.StateTurns.{in-steps, differs-steps, load-add, excess-add, left-add, adds-add, doubles-add}
+use Rattle.survey.proofs.PhaseTurns.{in-steps, differs-steps}
+use Rattle.survey.proofs.StateTurns.{load-add, excess-add, left-add, adds-add, doubles-add}
 use borrow.Author.Needs.{needs}
 use Rattle.survey.proofs.state.State.added.Statement.{statement}
 use Rattle.survey.proofs.state.State.added.Tie as tie

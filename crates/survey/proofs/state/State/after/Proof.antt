@@ -6,7 +6,7 @@ use Rattle.lines.proofs.Was.{was}
 use Rattle.lines.specs.declared.line.Line as line-of
 use Rattle.survey.specs.State.{isPlaced, Follows}
 use Rattle.survey.specs.declared.state.State.{State}
-use Rattle.survey.proofs.StateTurns.{at-table, at-load, at-double, at-add, at-end, at-other}
+use Rattle.survey.proofs.PhaseTurns.{at-table, at-load, at-double, at-add, at-end, at-other}
 use borrow.Author.Needs.{needs}
 use Rattle.survey.proofs.state.State.after.Statement.{statement}
 use Rattle.survey.proofs.state.State.after.Tie as tie

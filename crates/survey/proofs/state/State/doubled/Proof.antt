@@ -10,7 +10,8 @@ use Rattle.sheet.specs.Line.{double}
 use Rattle.sheet.specs.Questions.{disallowedFrom}
 use Rattle.survey.specs.State.{earlier, found, leftAfter}
 use Rattle.survey.specs.declared.fault.Fault.{Fault}
-use Rattle.survey.proofs.StateTurns.{in-steps, differs-steps, load-double, disallowed-double, left-double, adds-d, doubles-d}
+use Rattle.survey.proofs.PhaseTurns.{in-steps, differs-steps}
+use Rattle.survey.proofs.StateTurns.{load-double, disallowed-double, left-double, adds-d, doubles-d}
 use borrow.Author.Needs.{needs}
 use Rattle.survey.proofs.state.State.doubled.Statement.{statement}
 use Rattle.survey.proofs.state.State.doubled.Tie as tie

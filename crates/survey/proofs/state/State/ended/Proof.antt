@@ -4,7 +4,8 @@ use mathlib.Core.Path.{refl, ap}
 use lib.IntN.{pos}
 use Rattle.sheet.specs.Plan.{point}
 use Rattle.survey.specs.State.{earlier, found}
-use Rattle.survey.proofs.StateTurns.{end-placed, end-tables, end-few, disallowed-end, excess-end, left-end, adds-end, doubles-end}
+use Rattle.survey.proofs.PhaseTurns.{end-placed, end-tables, end-few}
+use Rattle.survey.proofs.StateTurns.{disallowed-end, excess-end, left-end, adds-end, doubles-end}
 use borrow.Author.Needs.{needs}
 use Rattle.survey.proofs.state.State.ended.Statement.{statement}
 use Rattle.survey.proofs.state.State.ended.Tie as tie

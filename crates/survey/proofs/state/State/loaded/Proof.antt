@@ -8,7 +8,8 @@ use Rattle.sheet.specs.Line.{load}
 use Rattle.sheet.specs.Questions.{differs}
 use Rattle.survey.specs.State.{earlier, found}
 use Rattle.survey.proofs.Taken.{earlier-none}
-use Rattle.survey.proofs.StateTurns.{in-tables, differs-tables, header-load, lines-load, excess-load, left-load, adds-load, doubles-load}
+use Rattle.survey.proofs.PhaseTurns.{in-tables, differs-tables}
+use Rattle.survey.proofs.StateTurns.{header-load, lines-load, excess-load, left-load, adds-load, doubles-load}
 use borrow.Author.Needs.{needs}
 use Rattle.survey.proofs.state.State.loaded.Statement.{statement}
 use Rattle.survey.proofs.state.State.loaded.Tie as tie

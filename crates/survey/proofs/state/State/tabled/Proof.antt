@@ -7,7 +7,8 @@ use Rattle.sheet.specs.Plan.{Point, tables}
 use Rattle.sheet.specs.Line.{table}
 use Rattle.sheet.specs.Questions.{tableLines, differs}
 use Rattle.survey.specs.State.{earlier, found}
-use Rattle.survey.proofs.StateTurns.{in-tables, differs-tables, header-table, lines-table, disallowed-table, excess-table, left-table}
+use Rattle.survey.proofs.PhaseTurns.{in-tables, differs-tables}
+use Rattle.survey.proofs.StateTurns.{header-table, lines-table, disallowed-table, excess-table, left-table}
 use borrow.Author.Needs.{needs}
 use Rattle.survey.proofs.state.State.tabled.Statement.{statement}
 use Rattle.survey.proofs.state.State.tabled.Tie as tie

@@ -5,8 +5,8 @@ use lib.Dec.{eqb}
 use Rattle.sheet.specs.Plan.{slots}
 use Rattle.survey.specs.State.{planFor}
 use borrow.Author.Needs.{needs}
-use Rattle.survey.proofs.state.is_on_plan.Statement.{statement}
-use Rattle.survey.proofs.state.is_on_plan.Tie as tie
+use Rattle.survey.proofs.header.is_on_plan.Statement.{statement}
+use Rattle.survey.proofs.header.is_on_plan.Tie as tie
 
 is-windowed-requires : tie.Need-is-windowed-requires
 is-windowed-requires c κs = search needs

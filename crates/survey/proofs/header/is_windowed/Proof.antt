@@ -6,8 +6,8 @@ use Rattle.digits.specs.Row.{isWindow}
 use Rattle.sheet.specs.Questions.{windowed}
 use Rattle.lines.specs.Coded.{kindOf}
 use borrow.Author.Needs.{needs}
-use Rattle.survey.proofs.state.is_windowed.Statement.{statement}
-use Rattle.survey.proofs.state.is_windowed.Tie as tie
+use Rattle.survey.proofs.header.is_windowed.Statement.{statement}
+use Rattle.survey.proofs.header.is_windowed.Tie as tie
 
 returns : tie.Need-returns
 returns c = rw (c .before .if1 .taken, eq-eqb (c .before .before .args .m1) 1 (c .if2 .taken))

@@ -4,8 +4,8 @@ use mathlib.Core.Bool.{Bool}
 use Rattle.sheet.specs.Line.{planOf}
 use Rattle.lines.specs.Coded.{kindOf}
 use borrow.Author.Needs.{needs}
-use Rattle.survey.proofs.state.plan_of.Statement.{statement}
-use Rattle.survey.proofs.state.plan_of.Tie as tie
+use Rattle.survey.proofs.header.plan_of.Statement.{statement}
+use Rattle.survey.proofs.header.plan_of.Tie as tie
 
 returns : tie.Need-returns
 returns c = search needs
