@@ -137,6 +137,7 @@ headingOf (add t) = none
 headingOf end = none
 headingOf misspelled = none
 
+-- the header that the lines begin with
 abbrev pub openingOf : List spec.Line → Option spec.Header
 openingOf [] = none
 openingOf (x ∷ ls) = headingOf x
@@ -149,6 +150,7 @@ pub record Opened (s : List ℕ) (head : header-of.Header) (next : ℕ) : Type 0
   pub later : 0 < next
   pub within : next ≤ length s
 
+-- it does, or it begins with none
 abbrev pub Opens : List ℕ → Opening → Type 0
 Opens s (opening.the-variants.Is head next) = Opened s head next
 Opens s opening.the-variants.None = openingOf (lines card s) ≡ none

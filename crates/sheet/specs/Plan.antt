@@ -22,7 +22,7 @@ abbrev pub slots : Plan → ℕ
 slots J = 2
 slots (I m1 m2) = (m1 + m2 - 2) / 2
 
--- the highest limit of slots: those of the widest windows
+-- the highest limit of slots, 30: what the widest windows need
 abbrev pub mostSlots : ℕ
 mostSlots = slots (I 31 31)
 
