@@ -1,33 +1,34 @@
 -- The answer and the buffer of the call for the cheapest sheet, by the first question missed, and where all are met.
-use mathlib.Core.Path.{_≡_, refl, sym, ap, subst, _∙_}
+use mathlib.Core.Path.{_≡_, refl, sym, ap, _∙_}
 use mathlib.Core.Bool.{true, false, _&&_, cond}
 use mathlib.Core.List.{List}
-use Prim.Native.Nat.{ℕ, _≤_, _<_, _^_}
+use Prim.Native.Nat.{ℕ, _<_, _^_}
 use lib.ListN.{length}
-use borrow.Author.Tests.{le-leb, lt-leb}
-use Rattle.digits.specs.Sized.{both, bounded}
-use Rattle.digits.specs.Bytes.{Bytes}
+use Rattle.digits.specs.Scalar.Sized.{both, bounded}
+use Rattle.digits.specs.Scalar.{Bytes}
 use Rattle.digits.specs.Limits.{card}
 use Rattle.digits.specs.Scalar.{scalar, sized}
 use Rattle.sheet.specs.declared.Plan.{Plan}
-use Rattle.sheet.specs.Plan.{mostSlots}
-use Rattle.sheet.specs.Planned.{of-window}
+use Rattle.sheet.specs.Plan.{isLimit}
+use Rattle.sheet.specs.Questions.Planned.{of-window}
 use Rattle.written.specs.Valid.{Valid, forJ, forI}
 use Rattle.written.specs.Written.{written}
 use Rattle.writer.specs.declared.answer.Sheet.{Sheet}
 use Rattle.writer.specs.declared.answer.Sheet.the-variants.{BadScalar, NoRoom, BadLimit}
-use Rattle.writer.specs.Call.{roomy, wrote, left, jAnswer, jBuffer, iAnswer, iBuffer}
-use Rattle.chooser.specs.Call.{planAnswer, planBuffer, cheapestAnswer, cheapestBuffer, Promised}
+use Rattle.writer.specs.Call.{number, roomy, wrote, left, jAnswer, jBuffer, iAnswer, iBuffer}
+use Rattle.chooser.specs.Body.Choice.{planAnswer, planBuffer}
+use Rattle.chooser.specs.Call.{cheapestQuestion, cheapestAnswer, cheapestBuffer, Promised}
 use Rattle.chooser.specs.Cheapest.{cheapestPlan, cheapest}
-use Rattle.chooser.specs.Least.{plan-within}
-use Rattle.chooser.specs.Promise.{cheapest-promised}
+use Rattle.chooser.specs.Cheapest.Least.{plan-within}
+use Rattle.chooser.specs.Call.Demand.{cheapest-promised, cheapest-question}
 
 module _ (k l buffer : List ℕ) (limit : ℕ) where
   -- what the call returns and leaves, where its answer is a
   abbrev pub Returned : Sheet → List ℕ → Type 0
   Returned a out =
       (a ≡ cheapestAnswer card k l limit (length buffer))
-      × ((out ≡ cheapestBuffer card k l limit buffer) × Promised a out (scalar k) (scalar l) limit)
+      × ((out ≡ cheapestBuffer card k l limit buffer)
+      × (Promised a out (scalar k) (scalar l) limit × (number a ≡ cheapestQuestion card k l limit (length buffer))))
 
   module _ (k-bytes : Bytes k) (l-bytes : Bytes l) where
     bounds : (sized card k && sized card l) ≡ true → (scalar k < 2 ^ 528) × (scalar l < 2 ^ 528)
@@ -37,8 +38,7 @@ module _ (k l buffer : List ℕ) (limit : ℕ) where
 
     -- the promise goes with the answer and the buffer
     promised : {a : Sheet} {out : List ℕ} → a ≡ cheapestAnswer card k l limit (length buffer) → out ≡ cheapestBuffer card k l limit buffer → Returned a out
-    promised {a} {out} e f =
-        (e, (f, subst (λ (x : Sheet). Promised x out (scalar k) (scalar l) limit) (sym e) (subst (λ (b : List ℕ). Promised (cheapestAnswer card k l limit (length buffer)) b (scalar k) (scalar l) limit) (sym f) (cheapest-promised k l limit buffer bounds))))
+    promised e f = rw (e, f) (refl, (refl, (cheapest-promised k l limit buffer bounds, cheapest-question card k l limit (length buffer))))
 
     refused : (a : Sheet) → cheapestAnswer card k l limit (length buffer) ≡ a → Returned a (left a (cheapest (scalar k) (scalar l) limit) buffer)
     unfolding cheapestBuffer
@@ -49,9 +49,9 @@ module _ (k l buffer : List ℕ) (limit : ℕ) where
     not-scalars e = refused BadScalar (rw e)
 
     module _ (sizes : (sized card k && sized card l) ≡ true) where
-      pub over-limit : mostSlots < limit → Returned BadLimit buffer
+      pub over-limit : isLimit limit ≡ false → Returned BadLimit buffer
       unfolding cheapestAnswer
-      over-limit h = refused BadLimit (rw (sizes, lt-leb limit mostSlots h))
+      over-limit h = refused BadLimit (rw (sizes, h))
 
       -- a valid plan's call asks only for room
       plan-answer : {p : Plan} → Valid p → planAnswer card p k l (length buffer) ≡ cond (roomy card (length buffer)) (wrote p k l) NoRoom
@@ -64,10 +64,10 @@ module _ (k l buffer : List ℕ) (limit : ℕ) where
       plan-buffer forJ = refl
       plan-buffer (forI v w) = refl
 
-      module _ (low : limit ≤ mostSlots) where
+      module _ (low : isLimit limit ≡ true) where
         answered : cheapestAnswer card k l limit (length buffer) ≡ planAnswer card (cheapestPlan (scalar k) (scalar l) limit) k l (length buffer)
         unfolding cheapestAnswer
-        answered = rw (sizes, le-leb limit mostSlots low) (sym (plan-answer (plan-within (scalar k) (scalar l) limit .0)))
+        answered = rw (sizes, low) (sym (plan-answer (plan-within (scalar k) (scalar l) limit .0)))
 
         pub by-plan : {a : Sheet} {out : List ℕ} {p : Plan} → p ≡ cheapestPlan (scalar k) (scalar l) limit
             → a ≡ planAnswer card p k l (length buffer) → out ≡ planBuffer card p k l buffer → Returned a out

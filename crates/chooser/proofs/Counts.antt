@@ -16,15 +16,16 @@ use Rattle.digits.specs.Two as Two
 use Rattle.digits.specs.Two.{Column, P, Q, two}
 use Rattle.digits.specs.Limits.{card}
 use Rattle.digits.specs.Scalar.{scalar}
-use Rattle.digits.specs.Sized.{bytes-sized, both-sized}
+use Rattle.digits.specs.Scalar.Sized.{bytes-sized, both-sized}
 use Rattle.forms.specs.Joint.{joint}
-use Rattle.forms.specs.JointValue.{joint-small}
+use Rattle.forms.specs.Joint.Value.{joint-small}
 use Rattle.forms.specs.Promise.{row-digits}
 use Rattle.forms.specs.Row.{row}
 use Rattle.recode.specs.Call.{filled, rowBuffer, jointBuffer}
-use Rattle.recode.specs.JointAnswers as JointAnswers
-use Rattle.recode.specs.RowAnswers as RowAnswers
-use Rattle.chooser.specs.Weights.{marked, nonzero, nonzeroPairs}
+use Rattle.sheet.specs.Questions.Planned.{of-window}
+use Rattle.recode.specs.Call.Joint as JointAnswers
+use Rattle.recode.specs.Call.Row as RowAnswers
+use Rattle.chooser.specs.Body.Weights.{marked, nonzero, nonzeroPairs}
 
 pub marked-one : (n : ℕ) → n ≢ 0 → marked n ≡ 1
 marked-one zero h = absurd (h refl)
@@ -115,7 +116,7 @@ columns-weighed cs k l s =
 pub row-call : (s : List ℕ) (m : ℕ) (buffer : List ℕ) → 1 ≤ length s → length s ≤ 66 → m % 2 ≡ 1 → m ≤ 31 → 8 * length s + 1 ≤ length buffer
     → nonzero (rowBuffer card s m buffer) ≡ Rows.weight (row m (pos (scalar s)))
 row-call s m buffer h l o w r =
-    ap nonzero (sym (RowAnswers.written card s m buffer (bytes-sized card s (h, l)) (omega arith) w (length (row m (pos (scalar s)))) (filled (row m (pos (scalar s))) buffer) (omega arith) refl refl .1))
+    ap nonzero (sym (RowAnswers.written card s m buffer (bytes-sized card s (h, l)) (of-window (record { odd = o; within = w })) (length (row m (pos (scalar s)))) (filled (row m (pos (scalar s))) buffer) (omega arith) refl refl .1 .0))
     ∙ row-weighed (row m (pos (scalar s))) buffer w (row-digits m (pos (scalar s)) (omega arith))
 
 -- and the columns that a joint call leaves
@@ -127,4 +128,4 @@ joint-call s t k l h g i j x y =
     JointAnswers.written card s t k l (both-sized card s t (bytes-sized card s (h, g)) (bytes-sized card t (i, j))) (omega arith) (length (joint (pos (scalar s)) (pos (scalar t))))
     (filled (Columns.row two P (joint (pos (scalar s)) (pos (scalar t)))) k) (filled (Columns.row two Q (joint (pos (scalar s)) (pos (scalar t)))) l) (omega arith) refl refl refl
     in
-    ap₂ nonzeroPairs (sym (w .1 .0)) (sym (w .1 .1)) ∙ columns-weighed cs k l (joint-small (pos (scalar s)) (pos (scalar t)))
+    ap₂ nonzeroPairs (sym (w .1 .0)) (sym (w .1 .1 .0)) ∙ columns-weighed cs k l (joint-small (pos (scalar s)) (pos (scalar t)))

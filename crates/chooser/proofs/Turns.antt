@@ -17,15 +17,16 @@ use Rattle.sheet.specs.declared.Plan.the-variants.{J, I}
 use Rattle.sheet.specs.Digits.{weight}
 use Rattle.sheet.specs.Plan.{slots, isWithin, tableAdditions}
 use Rattle.sheet.specs.Sound.{Window}
-use Rattle.written.specs.Accepted.{written-cost}
+use Rattle.written.specs.Promise.{written-cost}
 use Rattle.written.specs.Valid.{Valid, forJ, forI}
-use Rattle.written.specs.Columns.{paired-weight}
+use Rattle.written.specs.Written.Columns.{paired-weight}
 use Rattle.written.specs.Written.{digits, first}
 use Rattle.chooser.specs.Cheapest.{cheapestPlan, key, rank, plans, within}
-use Rattle.chooser.specs.Choice.{planWeight, costKey}
-use Rattle.chooser.specs.Least.{within-valid}
-use Rattle.chooser.specs.Lexicographic.{In, here, there, better, least, before}
-use Rattle.chooser.specs.Weights.{rowWeights}
+use Rattle.chooser.specs.Body.Choice.{planWeight, costKey}
+use Rattle.chooser.specs.Cheapest.Least.{within-valid}
+use Rattle.chooser.specs.Lexicographic.{better, least, before}
+use Rattle.chooser.specs.Lexicographic.Order.{In, here, there}
+use Rattle.chooser.specs.Body.Weights.{rowWeights}
 use Rattle.chooser.proofs.Numbers.{plans-length}
 use Rattle.chooser.proofs.Windows.{weights-at}
 

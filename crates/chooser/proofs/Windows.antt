@@ -11,7 +11,7 @@ use Rattle.digits.specs.Row as Rows
 use Rattle.forms.specs.Row.{row}
 use Rattle.sheet.specs.Plan.{odds}
 use Rattle.chooser.specs.Cheapest.{windows}
-use Rattle.chooser.specs.Weights.{rowWeights}
+use Rattle.chooser.specs.Body.Weights.{rowWeights}
 
 getD-odds : (d n i : ℕ) → i < n → getD (odds d n) i 0 ≡ d + 2 * i
 unfolding odds

@@ -1,23 +1,30 @@
 -- What the call for the cheapest sheet answers and leaves in the buffer it is lent, for all input; and what it promises of the
 -- sheet (demand 3).
+pub mod Demand
 use mathlib.Core.Path.{_≡_}
 use mathlib.Core.Bool.{_&&_, cond}
-use mathlib.Core.List.{List}
+use mathlib.Core.List.{List, [], _∷_}
 use Prim.Native.Nat.{ℕ, _≤_}
 use lib.ListN.{length, take}
 use Rattle.digits.specs.Limits.{Limits, card}
+use Rattle.digits.specs.Missed.{missed}
 use Rattle.digits.specs.Scalar.{scalar, sized}
-use Rattle.sheet.specs.declared.Plan.{Plan}
-use Rattle.sheet.specs.declared.Plan.the-variants.{J, I}
 use Rattle.sheet.specs.Answer.{Accepted, heading, sheetSlots, sheetAdditions}
+use Rattle.sheet.specs.Digits.{columns}
+use Rattle.sheet.specs.Line.{plan}
 use Rattle.sheet.specs.Plan.{isLimit}
 use Rattle.sheet.specs.Spelling.{lines}
+use Rattle.written.specs.Written.{digits}
 use Rattle.writer.specs.declared.answer.Sheet.{Sheet}
 use Rattle.writer.specs.declared.answer.Sheet.the-variants.{BadScalar, BadWindow, NoRoom, BadLimit, Written}
-use Rattle.writer.specs.Call.{roomy, wrote, left, jAnswer, jBuffer, iAnswer, iBuffer}
-use Rattle.chooser.specs.Cheapest.{cheapestPlan, cheapest}
+use Rattle.writer.specs.Call.{roomy, wrote, left}
+use Rattle.chooser.specs.Cheapest.{cheapestPlan, First, cheapest}
 
--- question 1 of both scalars, question 4 (is the limit at most 30?), question 3, or the sheet
+-- the questions: 1 of both scalars; 4. is the limit at most 30? 3
+abbrev pub cheapestQuestion : Limits → List ℕ → List ℕ → ℕ → ℕ → ℕ
+cheapestQuestion limits k l limit room = missed ((1, sized limits k) ∷ (1, sized limits l) ∷ (4, isLimit limit) ∷ (3, roomy limits room) ∷ [])
+
+-- the answer: the first question missed, or the sheet
 unfoldable pub cheapestAnswer : Limits → List ℕ → List ℕ → ℕ → ℕ → Sheet
 cheapestAnswer limits k l limit room =
     cond (sized limits k && sized limits l)
@@ -29,17 +36,11 @@ unfoldable pub cheapestBuffer : Limits → List ℕ → List ℕ → ℕ → Lis
 cheapestBuffer limits k l limit buffer =
     left (cheapestAnswer limits k l limit (length buffer)) (cheapest (scalar k) (scalar l) limit) buffer
 
--- the calls for the sheet of a plan
-abbrev pub planAnswer : Limits → Plan → List ℕ → List ℕ → ℕ → Sheet
-planAnswer limits J k l room = jAnswer limits k l room
-planAnswer limits (I m1 m2) k l room = iAnswer limits k l m1 m2 room
-
-abbrev pub planBuffer : Limits → Plan → List ℕ → List ℕ → List ℕ → List ℕ
-planBuffer limits J k l buffer = jBuffer limits k l buffer
-planBuffer limits (I m1 m2) k l buffer = iBuffer limits k l m1 m2 buffer
-
 -- what demand 3 asks of a sheet s for k and l under a limit that is said to have a additions
 pub record Cheapest (s : List ℕ) (k l limit a : ℕ) : Type 0 where
+  -- its plan is the first in 01's order, and its digits are 01's of that plan
+  pub planned : First k l limit (plan (heading (lines card s)))
+  pub digits-are : columns (lines card s) ≡ digits (plan (heading (lines card s))) k l
   pub accepted : Accepted card s k l
   pub within : sheetSlots card s ≤ limit
   -- a additions: its header states them, and its lines have them

@@ -1,12 +1,17 @@
 -- The cheapest sheet for two scalars under a slot limit: 01's order of plans, and the first in it.
-use mathlib.Core.Bool.{cond}
+pub mod Lists
+pub mod Least
+pub mod Sheet
+use mathlib.Core.Path.{_≡_}
+use mathlib.Core.Bool.{false, cond}
 use mathlib.Core.List.{List, [], _∷_, _++_, map}
-use Prim.Native.Nat.{ℕ}
+use Prim.Native.Nat.{ℕ, _≤_}
 use Rattle.sheet.specs.declared.Plan.{Plan}
 use Rattle.sheet.specs.declared.Plan.the-variants.{J, I}
 use Rattle.sheet.specs.Plan.{odds, slots, isWithin}
+use Rattle.written.specs.Valid.{Valid}
 use Rattle.written.specs.Written.{first, written, writtenAdditions}
-use Rattle.chooser.specs.Lexicographic.{least}
+use Rattle.chooser.specs.Lexicographic.{before, least}
 
 -- the sixteen windows
 abbrev pub windows : List ℕ
@@ -38,6 +43,12 @@ key k l p = writtenAdditions p k l ∷ slots p ∷ rank p ∷ first p ∷ []
 -- the cheapest plan within the limit; I 1, 1 needs no slot, so it is always one of them
 unfoldable pub cheapestPlan : ℕ → ℕ → ℕ → Plan
 cheapestPlan k l limit = least (key k l) (I 1 1) (within limit plans)
+
+-- p is the first in this order: a plan of 01 within the limit that no other comes before
+pub record First (k l limit : ℕ) (p : Plan) : Type 0 where
+  pub valid : Valid p
+  pub within : slots p ≤ limit
+  pub least : (q : Plan) → Valid q → slots q ≤ limit → before (key k l q) (key k l p) ≡ false
 
 -- the cheapest sheet
 unfoldable pub cheapest : ℕ → ℕ → ℕ → List ℕ

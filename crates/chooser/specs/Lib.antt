@@ -1,9 +1,6 @@
 pub mod Lexicographic
 pub mod Cheapest
-pub mod Lists
-pub mod Least
+pub mod Samples
 pub mod Demand3
-pub mod Weights
-pub mod Choice
 pub mod Call
-pub mod Promise
+pub mod Body

@@ -2,7 +2,9 @@ ghost use mathlib.Core.Path.{_≡_};
 ghost use lib.ListN.{length};
 ghost use Rattle.digits.specs.Limits.{card};
 ghost use Rattle.digits.specs.Scalar.{scalar};
-ghost use Rattle.chooser.specs.Call.{planAnswer, planBuffer, cheapestAnswer, cheapestBuffer, Promised};
+ghost use Rattle.chooser.specs.Body.Choice.{planAnswer, planBuffer};
+ghost use Rattle.chooser.specs.Call.{cheapestQuestion, cheapestAnswer, cheapestBuffer, Promised};
+ghost use Rattle.writer.specs.Call.{number};
 use sheet::Plan;
 use writer::Sheet;
 
@@ -22,12 +24,13 @@ pub fn cheapest(k: &[u8], l: &[u8], limit: u32, sheet: &mut [u8]) -> Sheet
     ensures answer { λ r. ⌜ r ≡ cheapestAnswer card (now (k .entry)) (now (l .entry)) limit (length (now (sheet .entry))) ⌝ }
     ensures buffer { λ _. ⌜ now (sheet .exit) ≡ cheapestBuffer card (now (k .entry)) (now (l .entry)) limit (now (sheet .entry)) ⌝ }
     ensures promised { λ r. ⌜ Promised r (now (sheet .exit)) (scalar (now (k .entry))) (scalar (now (l .entry))) limit ⌝ }
+    ensures question { λ r. ⌜ number r ≡ cheapestQuestion card (now (k .entry)) (now (l .entry)) limit (length (now (sheet .entry))) ⌝ }
 {
     if digits::are_scalars(k, l) {
-        if Plan::MOST_SLOTS < limit {
-            return Sheet::BadLimit;
+        if Plan::is_limit(limit) {
+            return sheet_of(crate::choice::cheapest_plan(k, l, limit), k, l, sheet);
         }
-        return sheet_of(crate::choice::cheapest_plan(k, l, limit), k, l, sheet);
+        return Sheet::BadLimit;
     }
     Sheet::BadScalar
 }

@@ -7,7 +7,7 @@ ghost use Rattle.sheet.specs.declared.Plan.{Plan};
 ghost use Rattle.sheet.specs.Plan.{isWithin};
 ghost use Rattle.written.specs.Written.{first};
 ghost use Rattle.chooser.specs.Cheapest.{cheapestPlan, plans, rank, within};
-ghost use Rattle.chooser.specs.Choice.{keyOf, planWeight, costKey};
+ghost use Rattle.chooser.specs.Body.Choice.{keyOf, planWeight, costKey};
 ghost use Rattle.chooser.specs.Lexicographic.{before, better, least};
 use sheet::Plan;
 

@@ -8,7 +8,7 @@ ghost use Rattle.digits.specs.Scalar.{scalar};
 ghost use Rattle.digits.specs.Two.{two};
 ghost use Rattle.forms.specs.Joint.{joint};
 ghost use Rattle.forms.specs.Row as Rows;
-ghost use Rattle.chooser.specs.Weights.{marked, nonzero, nonzeroPairs, rowWeights};
+ghost use Rattle.chooser.specs.Body.Weights.{marked, nonzero, nonzeroPairs, rowWeights};
 
 // 1 where a byte is not 0.
 fn mark(byte: u8) -> u32

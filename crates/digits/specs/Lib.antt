@@ -1,14 +1,9 @@
 pub mod Integer
-pub mod Congruent
-pub mod Machine
 pub mod Limits
 pub mod Scalar
-pub mod Length
-pub mod Bytes
 pub mod Byte
 pub mod Row
-pub mod RowAdding
 pub mod Column
-pub mod Adding
 pub mod Two
-pub mod Sized
+pub mod Buffer
+pub mod Missed

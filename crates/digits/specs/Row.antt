@@ -1,12 +1,12 @@
 -- Rows: lists of signed digits, place 0 first.
+pub mod Parts
+pub mod Adding
 use mathlib.Core.Path.{_≡_}
 use mathlib.Core.Bool.{Bool, _&&_}
 use mathlib.Core.List.{List, [], _∷_}
 use lib.Dec.{eqb, leb}
-use Prim.Native.Nat.{ℕ, zero, suc, _+_, _*_, _%_, _≤_}
-use native.Mathlib.Omega.{arith}
+use Prim.Native.Nat.{ℕ, zero, suc, _+_, _%_, _≤_}
 use lib.IntN.{ℤ, pos, negsuc, _+ℤ_, natAbs}
-use Rattle.digits.specs.Integer.{up, down, sum}
 
 -- the sum of digit × 2^place
 unfoldable pub value : List ℤ → ℤ
@@ -39,18 +39,3 @@ pub data Digit (m : ℕ) : ℤ → Type 0 where
 pub data Over (m : ℕ) : List ℤ → Type 0 where
   empty : Over m []
   more : {d : ℤ} {ds : List ℤ} → Digit m d → Over m ds → Over m (d ∷ ds)
-
--- the value's two parts as naturals: its positive digits, and its negative ones
-unfoldable pub plus : List ℤ → ℕ
-plus [] = 0
-plus (d ∷ ds) = up d + 2 * plus ds
-
-unfoldable pub minus : List ℤ → ℕ
-minus [] = 0
-minus (d ∷ ds) = down d + 2 * minus ds
-
-pub value-parts : (ds : List ℤ) → up (value ds) + minus ds ≡ plus ds + down (value ds)
-unfolding value plus minus
-value-parts [] = omega arith
-value-parts (d ∷ ds) =
-    omega (arith, sum d (value ds +ℤ value ds), sum (value ds) (value ds), value-parts ds)

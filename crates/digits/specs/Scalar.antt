@@ -1,10 +1,18 @@
 -- Scalars: unsigned numbers in bytes, the most significant first, and their bit length.
+pub mod Length
+pub mod Value
+pub mod Sized
+use mathlib.Core.Path.{_≡_}
 use mathlib.Core.Bool.{Bool, _&&_}
 use mathlib.Core.List.{List, [], _∷_, reverse}
-use Prim.Native.Nat.{ℕ, zero, suc, _+_, _*_, _/_}
+use Prim.Native.Nat.{ℕ, zero, suc, _+_, _*_, _/_, _≤_, _<_}
 use lib.Dec.{ltb, leb}
-use lib.ListN.{length}
+use lib.ListN.{length, getD}
 use Rattle.digits.specs.Limits.{Limits}
+
+-- every element is a byte
+abbrev pub Bytes : List ℕ → Type 0
+Bytes s = (i : ℕ) → getD s i 0 < 256
 
 -- the number of a list of bytes, the least significant first
 unfoldable pub little : List ℕ → ℕ
@@ -28,3 +36,9 @@ bitLengthIn (suc f) (suc n) = suc (bitLengthIn f (suc n / 2))
 
 unfoldable pub bitLength : ℕ → ℕ
 bitLength n = bitLengthIn n n
+
+-- the bit length of n in two parts: 8 for each byte below its top one, and the bits of that one; for zero both are 0
+pub record BitsOf (n below top : ℕ) : Type 0 where
+  pub all : 8 * below + top ≡ bitLength n
+  pub most : top ≤ 8
+  pub none : top ≡ 0 → below ≡ 0

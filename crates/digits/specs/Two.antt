@@ -2,6 +2,7 @@
 use mathlib.Core.Path.{_≡_, refl, sym, ap}
 use mathlib.Core.Logic.{_≢_, ⊎-elim}
 use mathlib.Core.Bool.{Bool, true, false, not, _&&_}
+use mathlib.Core.List.{List, [], _∷_}
 use Prim.Native.Nat.{zero, suc}
 use lib.Dec.{T}
 use lib.IntN.{ℤ, pos, negsuc, pos-ne-negsuc}
@@ -82,3 +83,10 @@ two =
       blank-digit = blank-digit;
       full-digit = full-digit;
     }
+
+-- two rows over the same places make columns; above its top a row has zeros
+unfoldable pub paired : List ℤ → List ℤ → List Column
+paired [] [] = []
+paired (a ∷ xs) [] = record { p = a; q = pos 0 } ∷ paired xs []
+paired [] (b ∷ ys) = record { p = pos 0; q = b } ∷ paired [] ys
+paired (a ∷ xs) (b ∷ ys) = record { p = a; q = b } ∷ paired xs ys

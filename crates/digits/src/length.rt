@@ -1,6 +1,4 @@
-ghost use mathlib.Core.Path.{_≡_};
-ghost use Prim.Native.Nat.{_+_, _*_};
-ghost use Rattle.digits.specs.Scalar.{scalar, bitLength};
+ghost use Rattle.digits.specs.Scalar.{scalar, BitsOf};
 
 // A bit length: 8 for each byte below the first non-zero one, and the bits of that one.
 pub struct BitLength {
@@ -10,7 +8,7 @@ pub struct BitLength {
 
 // The bit length of a scalar, from the leading zeros of its first non-zero byte.
 pub fn bit_length(bytes: &[u8]) -> BitLength
-    ensures { λ r. ⌜ 8 * r .below + r .top ≡ bitLength (scalar (now (bytes .entry))) ⌝ }
+    ensures { λ r. ⌜ BitsOf (scalar (now (bytes .entry))) (r .below) (r .top) ⌝ }
 {
     let mut i = 0;
     while i < bytes.len() {

@@ -1,10 +1,13 @@
-// Digits and scalars: the byte of a digit, the size of a scalar and its bit length.
+// Digits and scalars: the byte of a digit, the size of a scalar and its bit length, and windows.
 mod byte;
 mod length;
 mod scalar;
+mod window;
 
 pub use byte::byte_of;
 pub use length::BitLength;
 pub use length::bit_length;
 pub use scalar::are_scalars;
 pub use scalar::is_scalar;
+pub use window::are_windows;
+pub use window::is_window;

@@ -1,4 +1,12 @@
 -- The joint sparse form of two numbers: Solinas's rules, as 01 words them, and the function that finds the columns.
+pub mod Digit
+pub mod Rule
+pub mod Value
+pub mod Triple
+pub mod Sparse
+pub mod Unique
+pub mod Fewest
+pub mod Length
 use mathlib.Core.Path.{_≡_}
 use mathlib.Core.Logic.{_≢_, _⊎_}
 use mathlib.Core.Bool.{Bool, true, false, not, _&&_, _||_, cond}

@@ -1,5 +1,5 @@
--- What is promised of rows and joint sparse forms, in one place. The definitions are those of Residue, Row and Joint and of
--- digits; the proofs are in the files that the answers name.
+-- What is promised of rows and joint sparse forms, in one place. The definitions are those of Residue, Row, NonAdjacent and
+-- Joint and of digits; the proofs are in the files that the answers name.
 use mathlib.Core.Path.{_≡_}
 use mathlib.Core.Logic.{_≢_}
 use mathlib.Core.List.{List}
@@ -12,18 +12,20 @@ use Rattle.digits.specs.Scalar.{bitLength}
 use Rattle.digits.specs.Two.{Column, P, Q, two}
 use Rattle.forms.specs.Residue.{Residue, residue, width}
 use Rattle.forms.specs.Row.{RowRule, row}
+use Rattle.forms.specs.NonAdjacent.{WidthForm, NonAdjacent}
 use Rattle.forms.specs.Joint.{Keeps, Topped, joint}
-use Rattle.forms.specs.ResidueOnly
-use Rattle.forms.specs.Width
-use Rattle.forms.specs.RowOnly
-use Rattle.forms.specs.RowValue
-use Rattle.forms.specs.RowLength
-use Rattle.forms.specs.RowFewest
-use Rattle.forms.specs.JointValue
-use Rattle.forms.specs.JointKeeps
-use Rattle.forms.specs.JointUnique
-use Rattle.forms.specs.JointFewest
-use Rattle.forms.specs.JointLength
+use Rattle.forms.specs.Residue.Only as ResidueOnly
+use Rattle.forms.specs.Residue.Width as Width
+use Rattle.forms.specs.Row.Only as RowOnly
+use Rattle.forms.specs.Row.Value as RowValue
+use Rattle.forms.specs.Row.Length as RowLength
+use Rattle.forms.specs.Row.Fewest as RowFewest
+use Rattle.forms.specs.NonAdjacent.Row as NonAdjacentRow
+use Rattle.forms.specs.Joint.Value as JointValue
+use Rattle.forms.specs.Joint.Sparse as JointKeeps
+use Rattle.forms.specs.Joint.Unique as JointUnique
+use Rattle.forms.specs.Joint.Fewest as JointFewest
+use Rattle.forms.specs.Joint.Length as JointLength
 
 -- ── One row, for every window m ─────────────────────────────────────────────────────────────
 
@@ -64,6 +66,15 @@ row-length = RowLength.row-length
 -- no row over the same digits has fewer non-zero ones
 pub row-fewest : (m : ℕ) (c : ℤ) (ds : List ℤ) → 1 ≤ m → Over m ds → value ds ≡ c → weight (row m c) ≤ weight ds
 row-fewest = RowFewest.row-fewest
+
+-- m = 1 gives the non-adjacent form
+pub row-naf : (c : ℤ) → NonAdjacent c (row 1 c) × ((ds : List ℤ) → NonAdjacent c ds → ds ≡ row 1 c)
+row-naf c = (NonAdjacentRow.non-adjacent-row c, NonAdjacentRow.non-adjacent-only c)
+
+-- and m = 2^(w−1) − 1 the width-w form
+pub row-width-w : (w : ℕ) (c : ℤ) → 2 ≤ w
+    → WidthForm w c (row (2 ^ (w - 1) - 1) c) × ((ds : List ℤ) → WidthForm w c ds → ds ≡ row (2 ^ (w - 1) - 1) c)
+row-width-w w c h = (NonAdjacentRow.width-form-row w c h, λ ds. NonAdjacentRow.width-form-only w c ds h)
 
 -- ── Joint sparse form ───────────────────────────────────────────────────────────────────────
 

@@ -1,4 +1,6 @@
 -- The signed residue of an odd number: the odd r with −2^(w−1) < r < 2^(w−1) that leaves c − r divisible by 2^w.
+pub mod Only
+pub mod Width
 use mathlib.Core.Path.{_≡_}
 use mathlib.Core.Bool.{cond}
 use Prim.Native.Nat.{ℕ, suc, _+_, _-_, _%_, _^_, _<_}

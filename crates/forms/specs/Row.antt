@@ -1,5 +1,12 @@
 -- The row of a scalar for a window, as 01 words it: the digit of a remainder, what it leaves, and the row of all digits.
 -- The rule stands beside the function as a `data`.
+pub mod Digit
+pub mod OddDigit
+pub mod Only
+pub mod Value
+pub mod Natural
+pub mod Length
+pub mod Fewest
 use mathlib.Core.Path.{_≡_}
 use mathlib.Core.Logic.{_≢_}
 use mathlib.Core.Bool.{cond}

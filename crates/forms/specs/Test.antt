@@ -1,14 +1,16 @@
 -- Tests that compute, each with the statement that it decides: a finite check of a statement is one `tt`.
-use mathlib.Core.Path.{_≡_, refl}
+use mathlib.Core.Path.{_≡_, refl, sym, ap₂, subst}
 use mathlib.Core.Logic.{_⊎_, inl, inr, ⊎-elim}
 use mathlib.Core.Bool.{Bool, true, false, not, _&&_, _||_}
+use mathlib.Core.List.{List, [], _∷_, List·Memᴰ, List·Memᴰ·head, List·Memᴰ·tail, List·Memᴰ·not-nil, List·Memᴰ·cases-cons}
 use Prim.Native.Nat.{ℕ, zero, suc, _+_, _≤_, _<_}
 use native.Mathlib.Omega.{arith}
 use lib.Dec.{T, leb, eqb, leb→le, le→leb, eqb→eq}
 use lib.IntN.{ℤ, pos, negsuc, natAbs}
 use mir.Facts.{and-yes, yes-and, T-not, not-T, yes-eqb}
 use borrow.Author.Tests.{eqb-true, eqb-false}
-use Rattle.digits.specs.Integer.{up, down, read-eq, show-eq}
+use Rattle.digits.specs.Integer.{up, down}
+use Rattle.digits.specs.Integer.Parts.{read-eq, show-eq}
 use Rattle.digits.specs.Two.{Two, P, Q}
 
 -- a test that passes just where A holds
@@ -83,6 +85,49 @@ abbrev pub same : (a b : ℤ) → Test (a ≡ b)
 same a b =
     let parts = equal (up a + down b) (up b + down a) in
     record { test = parts .test; tells = λ t. show-eq a b (parts .tells t); shows = λ e. parts .shows (read-eq a b e) }
+
+-- an equation of lists, by a test of their entries
+module _ {A : Type 0} (entry : (x y : A) → Test (x ≡ y)) where
+  abbrev pub agree : List A → List A → Bool
+  agree [] [] = true
+  agree (x ∷ xs) [] = false
+  agree [] (y ∷ ys) = false
+  agree (x ∷ xs) (y ∷ ys) = entry x y .test && agree xs ys
+
+  pub agree-tells : (xs ys : List A) → T (agree xs ys) → xs ≡ ys
+  agree-tells [] [] t = refl
+  agree-tells (x ∷ xs) [] t = absurd t
+  agree-tells [] (y ∷ ys) t = absurd t
+  agree-tells (x ∷ xs) (y ∷ ys) t =
+      let z = and-yes (entry x y .test) (agree xs ys) t in ap₂ _∷_ (entry x y .tells (z .0)) (agree-tells xs ys (z .1))
+
+  pub agree-self : (xs : List A) → T (agree xs xs)
+  agree-self [] = tt
+  agree-self (x ∷ xs) = yes-and (entry x x .test) (agree xs xs) (entry x x .shows refl) (agree-self xs)
+
+  abbrev pub sameList : (xs ys : List A) → Test (xs ≡ ys)
+  sameList xs ys =
+      record { test = agree xs ys; tells = agree-tells xs ys; shows = λ e. subst (λ ys. T (agree xs ys)) e (agree-self xs) }
+
+-- all entries of a list
+module _ {A : Type 0} {P : A → Type 0} (entry : (x : A) → Test (P x)) where
+  abbrev pub allOf : List A → Bool
+  allOf [] = true
+  allOf (x ∷ xs) = entry x .test && allOf xs
+
+  pub all-tells : (xs : List A) → T (allOf xs) → (x : A) → List·Memᴰ x xs → P x
+  all-tells [] t x m = absurd (List·Memᴰ·not-nil m)
+  all-tells (y ∷ xs) t x m =
+      let z = and-yes (entry y .test) (allOf xs) t in
+      ⊎-elim (λ e. subst P (sym e) (entry y .tells (z .0))) (λ n. all-tells xs (z .1) x n) (List·Memᴰ·cases-cons m)
+
+  pub all-shows : (xs : List A) → ((x : A) → List·Memᴰ x xs → P x) → T (allOf xs)
+  all-shows [] f = tt
+  all-shows (y ∷ xs) f =
+      yes-and (entry y .test) (allOf xs) (entry y .shows (f y (List·Memᴰ·head refl))) (all-shows xs (λ x m. f x (List·Memᴰ·tail m)))
+
+  abbrev pub everyOf : (xs : List A) → Test ((x : A) → List·Memᴰ x xs → P x)
+  everyOf xs = record { test = allOf xs; tells = all-tells xs; shows = all-shows xs }
 
 -- all numbers below n
 abbrev pub allBelow : ℕ → (ℕ → Bool) → Bool

@@ -1,4 +1,2 @@
 pub mod Told
-pub mod Lines
-pub mod Lengths
 pub mod Promise

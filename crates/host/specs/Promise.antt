@@ -4,7 +4,7 @@ use mathlib.Core.Path.{_≡_}
 use mathlib.Core.List.{List}
 use Prim.Native.Nat.{ℕ, _/_, _%_, _^_, _<_}
 use native.Mathlib.Omega.{arith}
-use Rattle.digits.specs.Bytes.{Bytes}
+use Rattle.digits.specs.Scalar.{Bytes}
 use Rattle.digits.specs.Limits.{card}
 use Rattle.recode.specs.Call as Recoding
 use Rattle.recode.specs.Call.{rowAnswer, jointAnswer}
@@ -17,8 +17,8 @@ use Rattle.sheet.specs.Answer.{answer}
 use Rattle.reader.specs.Judgement.{judgement}
 use Rattle.reader.specs.declared.judge.Judgement.{Judgement}
 use Rattle.host.specs.Told.{packed, toldRecoded, toldSheet, toldJudgement, number, line}
-use Rattle.host.specs.Lengths.{row-short, joint-short, j-short, i-short, cheapest-short}
-use Rattle.host.specs.Lines.{line-within}
+use Rattle.host.specs.Told.Lengths.{row-short, joint-short, j-short, i-short, cheapest-short}
+use Rattle.host.specs.Told.Lines.{line-within}
 
 -- the high half and the low half of what is told
 pub record Halves (told high low : ℕ) : Type 0 where
@@ -29,10 +29,10 @@ packed-halves : (high low : ℕ) → low < 2 ^ 32 → Halves (packed high low) h
 packed-halves high low h = record { above = omega arith; below = omega arith }
 
 abbrev pub RecodedHalves : Recoded → Type 0
-RecodedHalves r = Halves (toldRecoded r) (Recoding.number r) (Recoding.length r)
+RecodedHalves r = Halves (toldRecoded r) (Recoding.number r) (Recoding.placesWritten r)
 
 abbrev pub SheetHalves : Sheet → Type 0
-SheetHalves s = Halves (toldSheet s) (Writing.number s) (Writing.length s)
+SheetHalves s = Halves (toldSheet s) (Writing.number s) (Writing.bytesWritten s)
 
 abbrev pub JudgementHalves : Judgement → Type 0
 JudgementHalves j = Halves (toldJudgement j) (number j) (line j)

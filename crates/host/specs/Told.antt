@@ -1,5 +1,7 @@
 -- What a call tells the C host: one number of 64 bits, whose high half is the number of the question missed and whose low half is
 -- the rest of the answer.
+pub mod Lengths
+pub mod Lines
 use Prim.Native.Nat.{ℕ, _+_, _*_, _^_}
 use Rattle.recode.specs.Call as Recoding
 use Rattle.recode.specs.declared.answer.Recoded.{Recoded}
@@ -14,11 +16,11 @@ packed number rest = number * 2 ^ 32 + rest
 
 -- a row or a joint form: the number of the question missed, 0 where none is; the length written
 abbrev pub toldRecoded : Recoded → ℕ
-toldRecoded r = packed (Recoding.number r) (Recoding.length r)
+toldRecoded r = packed (Recoding.number r) (Recoding.placesWritten r)
 
 -- a sheet: the same
 abbrev pub toldSheet : Sheet → ℕ
-toldSheet s = packed (Writing.number s) (Writing.length s)
+toldSheet s = packed (Writing.number s) (Writing.bytesWritten s)
 
 -- the number of the reader's question that is missed, 0 where none is
 abbrev pub number : Judgement → ℕ

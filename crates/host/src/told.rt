@@ -9,7 +9,7 @@ use writer::Sheet;
 
 // What is told of a row or a joint form.
 pub fn recoded(answer: Recoded) -> u64
-    requires { ⌜ Recoding.length answer < 2 ^ 32 ⌝ }
+    requires { ⌜ Recoding.placesWritten answer < 2 ^ 32 ⌝ }
     ensures { λ r. ⌜ r ≡ toldRecoded answer ⌝ }
 {
     match answer {
@@ -22,7 +22,7 @@ pub fn recoded(answer: Recoded) -> u64
 
 // What is told of a sheet.
 pub fn written(answer: Sheet) -> u64
-    requires { ⌜ Writing.length answer < 2 ^ 32 ⌝ }
+    requires { ⌜ Writing.bytesWritten answer < 2 ^ 32 ⌝ }
     ensures { λ r. ⌜ r ≡ toldSheet answer ⌝ }
 {
     match answer {

@@ -11,8 +11,8 @@ use Rattle.sheet.specs.Numeral.{number, followed}
 use Rattle.sheet.specs.Line as spec
 use Rattle.sheet.specs.Line.{header, table, load, double, add, end, misspelled}
 use Rattle.sheet.specs.Spelling.{lineFeed, comma, cut, letter, readKind, readDecimal, readScalar, readHeader, _>>=_, readLine, readLines, lines}
-use Rattle.sheet.specs.Cut.{lines-none}
-use Rattle.sheet.specs.Field.{First, isNumeral}
+use Rattle.sheet.specs.Spelling.Cut.{lines-none}
+use Rattle.sheet.specs.Spelling.Field.{First, isNumeral}
 use Rattle.lines.specs.Coded.{codedHeader, codedHeading, headingOf, openingOf, Opened, headField, ScalarIn}
 use Rattle.lines.specs.declared.header.Header as header-of
 use Rattle.lines.specs.declared.header.Heading as heading

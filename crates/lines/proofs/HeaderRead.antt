@@ -14,7 +14,7 @@ use Rattle.sheet.specs.Plan.{Point}
 use Rattle.sheet.specs.Line as spec
 use Rattle.sheet.specs.Line.{joint, interleaved, header, table, load, double, add, end, misspelled}
 use Rattle.sheet.specs.Spelling.{comma, cut, letter, readKind, readDecimal, readPoint, readHeader, made, sized, readBehind, readLine}
-use Rattle.sheet.specs.Field.{isNumeral}
+use Rattle.sheet.specs.Spelling.Field.{isNumeral}
 use Rattle.sheet.proofs.FieldTurns.{numeral-value}
 use Rattle.lines.specs.Coded.{kindOf, isJoint, codedHeading, headingOf}
 use Rattle.lines.specs.declared.header.Header as header-of

@@ -10,9 +10,9 @@ use Rattle.digits.specs.Limits.{card}
 use Rattle.sheet.specs.Line as spec
 use Rattle.sheet.specs.Line.{double, misspelled}
 use Rattle.sheet.specs.Spelling.{lineFeed, cut, readBehind, readLine, lines}
-use Rattle.sheet.specs.Cut.{Lacks, lines-none, lines-more, lines-last}
+use Rattle.sheet.specs.Spelling.Cut.{Lacks, lines-none, lines-more, lines-last}
 use Rattle.sheet.specs.Every.{empty}
-use Rattle.sheet.specs.Field.{First}
+use Rattle.sheet.specs.Spelling.Field.{First}
 use Rattle.sheet.proofs.CutTurns.{first-all, lacks-turn}
 use Rattle.lines.specs.Coded.{coded, Doubles, Took, Past}
 use Rattle.lines.specs.declared.line.Line.{Line}

@@ -15,8 +15,8 @@ use Rattle.sheet.specs.Plan.{Point}
 use Rattle.sheet.specs.Line as spec
 use Rattle.sheet.specs.Line.{header, table, load, double, add, end, misspelled}
 use Rattle.sheet.specs.Spelling.{comma, cut, letter, readPoint, readHeader, made, sized, readBehind, readLine}
-use Rattle.sheet.specs.Cut.{cut-some}
-use Rattle.sheet.specs.Field.{First}
+use Rattle.sheet.specs.Spelling.Cut.{cut-some}
+use Rattle.sheet.specs.Spelling.Field.{First}
 use Rattle.sheet.proofs.CutTurns.{first-last, first-part, first-zero}
 use Rattle.lines.specs.Coded.{codedPoint, codedPair, coded, pointed, stepped}
 use Rattle.lines.specs.declared.point.Pair as pair

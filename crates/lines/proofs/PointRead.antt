@@ -11,7 +11,7 @@ use lib.ListN.{length, getD, drop}
 use borrow.Author.Tests.{eq-eqb, ne-eqb, lt-ltb, le-ltb, le-leb, lt-leb}
 use Rattle.sheet.specs.Numeral.{worth, figures, followed, number}
 use Rattle.sheet.specs.Spelling.{plain, negative, readDigit, readPoint}
-use Rattle.sheet.specs.Field.{decimalOf}
+use Rattle.sheet.specs.Spelling.Field.{decimalOf}
 use Rattle.lines.specs.Coded.{optionOf, signed, codedDigit, codedPair}
 use Rattle.lines.specs.declared.point.Signed.{Signed}
 use Rattle.lines.specs.declared.point.Digit as digit

@@ -13,7 +13,7 @@ use Rattle.sheet.specs.Plan.{Point, point}
 use Rattle.sheet.specs.Line as spec
 use Rattle.sheet.specs.Line.{Kind, joint, interleaved, header, table, load, double, add, end, misspelled}
 use Rattle.sheet.specs.Spelling.{lineFeed, comma, cut, readPoint, lines}
-use Rattle.sheet.specs.Field.{isNumeral}
+use Rattle.sheet.specs.Spelling.Field.{isNumeral}
 use Rattle.sheet.specs.declared.figures.Decimal.{Decimal}
 use Rattle.sheet.specs.declared.figures.Decimal as decimal
 use Rattle.lines.specs.declared.point.Signed.{Signed}

@@ -1,6 +1,6 @@
 ghost use mathlib.Core.Path.{_≡_};
 ghost use mathlib.Core.List.{[], _∷_};
-ghost use Rattle.sheet.specs.Field.{decimalOf};
+ghost use Rattle.sheet.specs.Spelling.Field.{decimalOf};
 ghost use Rattle.sheet.specs.Numeral.{number};
 ghost use Rattle.sheet.specs.Spelling.{readDigit, readPoint, plain, negative};
 ghost use Rattle.lines.specs.Coded.{optionOf, codedDigit, codedPair};

@@ -9,8 +9,8 @@ use native.Mathlib.Decide.{decLt}
 use native.Mathlib.Omega.{arith}
 use lib.Dec.{eqb}
 use lib.ListN.{length, take, drop, length-drop, drop-of-length-le}
-use Rattle.sheet.specs.Cut.{cut-some}
-use Rattle.sheet.specs.Field.{First}
+use Rattle.sheet.specs.Spelling.Cut.{cut-some}
+use Rattle.sheet.specs.Spelling.Field.{First}
 use Rattle.sheet.specs.Spelling.{cut, push, lineFeed}
 use Rattle.sheet.proofs.CutTurns.{first-part, first-last}
 use Rattle.order.specs.Order.{onlyLine, lineIn, lineOf}

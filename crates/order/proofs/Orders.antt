@@ -11,7 +11,7 @@ use mathlib.Core.Logic.{_≢_}
 use borrow.Author.Tests.{eq-eqb, ne-eqb}
 use Rattle.digits.specs.Limits.{card}
 use Rattle.sheet.specs.declared.figures.Decimal.the-variants.{Is, None}
-use Rattle.sheet.specs.Field.{isNumeral, decimalOf}
+use Rattle.sheet.specs.Spelling.Field.{isNumeral, decimalOf}
 use Rattle.sheet.specs.Numeral.{figures, followed}
 use Rattle.sheet.specs.Spelling.{readDecimal, _>>=_}
 use Rattle.sheet.proofs.FieldTurns.{numeral-value, numeral-parts}

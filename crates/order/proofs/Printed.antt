@@ -8,7 +8,7 @@ use native.Mathlib.Omega.{arith}
 use borrow.Author.Tests.{le-leb, lt-leb, lt-ltb}
 use lib.ListN.{length, getD, set, take, length-set}
 use lib.Seq.{length-take-le}
-use Rattle.digits.specs.Sized.{bytes-sized}
+use Rattle.digits.specs.Scalar.Sized.{bytes-sized}
 use Rattle.digits.specs.Limits.{card}
 use Rattle.digits.specs.Scalar.{scalar}
 use Rattle.sheet.specs.Numeral.{numeral, followed}
@@ -19,11 +19,12 @@ use Rattle.writer.specs.Call as Call
 use Rattle.writer.specs.Call.{wrote, left, number}
 use Rattle.writer.specs.declared.answer.Sheet.{Sheet}
 use Rattle.writer.specs.declared.answer.Sheet.the-variants.{BadLimit, Written}
-use Rattle.sheet.specs.NumeralFigures.{numeral-low}
+use Rattle.sheet.specs.Numeral.Figures.{numeral-low}
 use Rattle.chooser.specs.Call.{cheapestAnswer, cheapestBuffer}
 use Rattle.chooser.specs.Cheapest.{cheapestPlan, cheapest}
 use Rattle.order.proofs.Orders.{Ordered}
-use Rattle.order.specs.Order.{Order, lineOf, readFields, readOrder, refusal, served, answered, printed, Prints, orderLength, orderBuffer}
+use Rattle.order.specs.Order.Demand.{order-kept}
+use Rattle.order.specs.Order.{Order, lineOf, readFields, readOrder, refusal, served, answered, printed, Prints, orderLength, orderBuffer, OrderPromised}
 
 numeral-one : (n : ℕ) → n < 10 → numeral 10 n ≡ (48 + n) ∷ []
 numeral-one n h = numeral-low 10 (omega arith) n h ∙ rw (lt-ltb n 10 h)
@@ -73,7 +74,7 @@ module _ {k l buffer out : List ℕ} {slots x y : ℕ} {a : Sheet} (c : Answers 
   sheet-printed {n} {m} h = named (go (isLimit slots) refl)
     where
       go : (b : Bool) → isLimit slots ≡ b → Prints (cond b (written (cheapestPlan (scalar k) (scalar l) slots) (scalar k) (scalar l)) (refusal 4)) buffer n out
-      go true d = record { long = ap Call.length (sym h ∙ asked true d); out-is = left-as h }
+      go true d = record { long = ap Call.bytesWritten (sym h ∙ asked true d); out-is = left-as h }
       go false d = absurd (omega (arith, ap number (sym h ∙ asked false d)))
 
   pub limit-printed : {r : ℕ} {t : List ℕ} → a ≡ BadLimit → Prints (refusal 4) out r t → Prints (served x y slots) buffer r t
@@ -91,11 +92,19 @@ module _ {k l buffer out : List ℕ} {slots x y : ℕ} {a : Sheet} (c : Answers 
       go true d = i (sym h ∙ ap number (asked true d))
       go false d = j (sym h ∙ ap number (asked false d))
 
--- the answer and the buffer of the order call
+-- the contract of the order call, where it answers r and leaves t
+abbrev pub Returned : List ℕ → List ℕ → ℕ → List ℕ → Type 0
+Returned s buffer r t =
+    (r ≡ orderLength card s (length buffer)) × ((t ≡ orderBuffer card s buffer) × OrderPromised s (length buffer) r t)
+
 module _ (s buffer : List ℕ) where
-  pub short-buffer : length buffer < 16384 → (0 ≡ orderLength card s (length buffer)) × (buffer ≡ orderBuffer card s buffer)
+  -- the promise goes with the answer and the buffer
+  kept : {r : ℕ} {t : List ℕ} → r ≡ orderLength card s (length buffer) → t ≡ orderBuffer card s buffer → Returned s buffer r t
+  kept e f = rw (e, f) (refl, (refl, order-kept s buffer))
+
+  pub short-buffer : length buffer < 16384 → Returned s buffer 0 buffer
   unfolding orderLength orderBuffer
-  short-buffer h = (rw (lt-leb 16384 (length buffer) h), rw (lt-leb 16384 (length buffer) h))
+  short-buffer h = kept (rw (lt-leb 16384 (length buffer) h)) (rw (lt-leb 16384 (length buffer) h))
 
   -- the text of the line is that of its order
   read : (line : List ℕ) → line ≡ lineOf s → (o : Option Order) → readFields card (cut comma line) ≡ o → printed card s ≡ answered o
@@ -103,16 +112,16 @@ module _ (s buffer : List ℕ) where
   read line is o e = ap (λ (x : List ℕ). answered (readFields card (cut comma x))) (sym is) ∙ ap answered e
 
   module _ (room : 16384 ≤ length buffer) {r : ℕ} {t : List ℕ} where
-    whole : (o : List ℕ) → printed card s ≡ o → Prints o buffer r t → (r ≡ orderLength card s (length buffer)) × (t ≡ orderBuffer card s buffer)
+    whole : (o : List ℕ) → printed card s ≡ o → Prints o buffer r t → Returned s buffer r t
     unfolding orderLength orderBuffer
-    whole o e p = rw (le-leb 16384 (length buffer) room, e) (p .long, p .out-is)
+    whole o e p = kept (rw (le-leb 16384 (length buffer) room, e) (p .long)) (rw (le-leb 16384 (length buffer) room, e) (p .out-is))
 
     module _ (line : List ℕ) (is : line ≡ lineOf s) where
       pub order-printed : (f g : List ℕ) (n : ℕ) → f ≡ getD (cut comma line) 0 [] → g ≡ getD (cut comma line) 1 [] → Ordered (cut comma line) n
-          → Prints (served (followed 16 0 f) (followed 16 0 g) n) buffer r t → (r ≡ orderLength card s (length buffer)) × (t ≡ orderBuffer card s buffer)
+          → Prints (served (followed 16 0 f) (followed 16 0 g) n) buffer r t → Returned s buffer r t
       order-printed f g n i j o p =
           whole (served (followed 16 0 f) (followed 16 0 g) n)
           (read line is _ (o .read) ∙ ap₂ (λ (x y : List ℕ). served (followed 16 0 x) (followed 16 0 y) n) (sym i) (sym j)) p
 
-      pub misspelled-printed : readFields card (cut comma line) ≡ none → Prints (refusal 6) buffer r t → (r ≡ orderLength card s (length buffer)) × (t ≡ orderBuffer card s buffer)
+      pub misspelled-printed : readFields card (cut comma line) ≡ none → Prints (refusal 6) buffer r t → Returned s buffer r t
       misspelled-printed e p = whole (refusal 6) (read line is none e) p

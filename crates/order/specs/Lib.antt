@@ -1,4 +1,3 @@
 pub mod Order
 pub mod Samples
-pub mod Longest
 pub mod Promise

@@ -1,16 +1,20 @@
 -- The order program's line, as 01 words it, and what the program prints for it.
+pub mod Longest
+pub mod Demand
 use mathlib.Core.Path.{_≡_}
-use mathlib.Core.Bool.{cond}
+use mathlib.Core.Logic.{_↔_}
+use mathlib.Core.Bool.{true, false, cond}
 use mathlib.Core.List.{List, [], _∷_, _++_}
 use mathlib.Core.Option.{Option, none, some}
 use Prim.Native.Nat.{ℕ}
 use lib.Dec.{eqb}
-use lib.ListN.{length, getD, drop}
-use Rattle.digits.specs.Limits.{Limits}
+use lib.ListN.{length, getD, take, drop}
+use Rattle.digits.specs.Limits.{Limits, card}
 use Rattle.sheet.specs.Ascii.{ascii}
 use Rattle.sheet.specs.Plan.{isLimit}
 use Rattle.sheet.specs.Spelling.{comma, cut, decimal, lineFeed, readDecimal, readScalar, _>>=_}
 use Rattle.writer.specs.Call.{roomy}
+use Rattle.chooser.specs.Call.{Cheapest}
 use Rattle.chooser.specs.Cheapest.{cheapest}
 
 -- k,l,slots
@@ -69,14 +73,27 @@ answered (some o) = served (o .k) (o .l) (o .slots)
 unfoldable pub printed : Limits → List ℕ → List ℕ
 printed limits s = answered (readOrder limits s)
 
+-- what is promised of the text that is printed for the bytes s
+pub record Printed (s text : List ℕ) : Type 0 where
+  -- it is N,6 exactly where they are no order
+  pub misspelled : (text ≡ refusal 6) ↔ (readOrder card s ≡ none)
+  -- it is N,4 exactly where they are one whose limit is beyond 30
+  pub beyond : (text ≡ refusal 4) ↔ ((o : Order) × (readOrder card s ≡ some o) × (isLimit (o .slots) ≡ false))
+  -- and otherwise it is the sheet that demand 3 asks for
+  pub sheet : (o : Order) → readOrder card s ≡ some o → isLimit (o .slots) ≡ true → (a : ℕ) × Cheapest text (o .k) (o .l) (o .slots) a
+
 -- what is printed into a buffer: the text from byte 0 on, behind it what was lent; r is its length
 pub record Prints (text buffer : List ℕ) (r : ℕ) (out : List ℕ) : Type 0 where
   pub long : r ≡ length text
   pub out-is : out ≡ text ++ drop (length text) buffer
 
--- the answer and the buffer of the order call, which asks for 16,384 bytes
+-- the answer and the buffer of the order call, which asks for 16,384 bytes; 01 leaves free what it answers in a shorter buffer, which is 0
 unfoldable pub orderLength : Limits → List ℕ → ℕ → ℕ
 orderLength limits s room = cond (roomy limits room) (length (printed limits s)) 0
 
 unfoldable pub orderBuffer : Limits → List ℕ → List ℕ → List ℕ
 orderBuffer limits s buffer = cond (roomy limits (length buffer)) (printed limits s ++ drop (length (printed limits s)) buffer) buffer
+
+-- what is promised of the answer r and of what the buffer then holds: where there is room, the first r bytes are such a text
+abbrev pub OrderPromised : List ℕ → ℕ → ℕ → List ℕ → Type 0
+OrderPromised s room r out = roomy card room ≡ true → Printed s (take r out)

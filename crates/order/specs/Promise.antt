@@ -6,7 +6,8 @@ use native.Mathlib.Omega.{arith}
 use lib.ListN.{length, drop, length-append}
 use Rattle.digits.specs.Limits.{card}
 use Rattle.writer.specs.Call.{roomy}
-use Rattle.order.specs.Order.{printed, orderLength, orderBuffer}
+use Rattle.order.specs.Order.Demand as Demand
+use Rattle.order.specs.Order.{printed, Printed, orderLength, orderBuffer}
 
 -- the answer counts bytes of the buffer
 pub order-fits : (s buffer : List ℕ) → orderLength card s (length buffer) ≤ length (orderBuffer card s buffer)
@@ -16,3 +17,7 @@ order-fits s buffer = go (roomy card (length buffer))
     go : (b : Bool) → cond b (length (printed card s)) 0 ≤ length (cond b (printed card s ++ drop (length (printed card s)) buffer) buffer)
     go true = omega (arith, length-append (printed card s) (drop (length (printed card s)) buffer))
     go false = omega arith
+
+-- what is printed is N,6 exactly for what is no order, N,4 exactly for a limit beyond 30, and otherwise the sheet that demand 3 asks for
+pub order-prints : (s : List ℕ) → Printed s (printed card s)
+order-prints = Demand.printed-kept

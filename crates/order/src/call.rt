@@ -3,9 +3,9 @@ ghost use mathlib.Core.Bool.{true};
 ghost use Prim.Native.Nat.{_≤_, _<_};
 ghost use lib.ListN.{length};
 ghost use Rattle.digits.specs.Limits.{card};
-ghost use Rattle.sheet.specs.Field.{isNumeral};
+ghost use Rattle.sheet.specs.Spelling.Field.{isNumeral};
 ghost use Rattle.sheet.specs.Numeral.{followed};
-ghost use Rattle.order.specs.Order.{Prints, refusal, served, orderLength, orderBuffer};
+ghost use Rattle.order.specs.Order.{Prints, refusal, served, orderLength, orderBuffer, OrderPromised};
 use sheet::figures::Decimal;
 use writer::Sheet;
 
@@ -49,6 +49,7 @@ fn serve(k: &[u8], l: &[u8], slots: u32, out: &mut [u8]) -> usize
 pub fn order(line: &[u8], out: &mut [u8]) -> usize
     ensures answer { λ r. ⌜ r ≡ orderLength card (now (line .entry)) (length (now (out .entry))) ⌝ }
     ensures buffer { λ _. ⌜ now (out .exit) ≡ orderBuffer card (now (line .entry)) (now (out .entry)) ⌝ }
+    ensures promised { λ r. ⌜ OrderPromised (now (line .entry)) (length (now (out .entry))) r (now (out .exit)) ⌝ }
 {
     if out.len() < SHEET {
         return 0;

@@ -1,6 +1,6 @@
 ghost use mathlib.Core.Path.{_≡_};
 ghost use Rattle.digits.specs.Limits.{card};
-ghost use Rattle.sheet.specs.Field.{decimalOf};
+ghost use Rattle.sheet.specs.Spelling.Field.{decimalOf};
 ghost use Rattle.sheet.specs.Spelling.{comma, cut};
 ghost use Rattle.order.specs.Order.{lineOf, readFields, slotsOf};
 use sheet::figures::Decimal;

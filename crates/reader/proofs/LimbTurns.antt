@@ -10,10 +10,11 @@ use lib.ListN.{length, getD, take, drop, replicate, drop-of-length-le}
 use lib.Seq.{drop-cons, take-suc, take-length}
 use borrow.Author.Tests.{eq-eqb, ne-eqb, eqb-true, eqb-false, ltb-true}
 use lib.IntN.{pos}
-use Rattle.digits.specs.Integer.{up, down, negation}
+use Rattle.digits.specs.Integer.{up, down}
+use Rattle.digits.specs.Integer.Parts.{negation}
 use Rattle.sheet.specs.Numeral.{worth, figures, followed}
 use Rattle.lines.specs.Coded.{whole, wholeOf}
-use Rattle.reader.specs.Limbs.{limb, value, before}
+use Rattle.reader.specs.Body.Limbs.{limb, value, before}
 use Rattle.lines.specs.declared.point.Signed.{Signed}
 
 -- ── a scalar ────────────────────────────────────────────────────────────────────────────────

@@ -12,12 +12,12 @@ use Rattle.digits.specs.Limits.{card}
 use Rattle.sheet.specs.Plan.{Point, point}
 use Rattle.sheet.specs.Line.{Header, Line, header, table, load, double, add, end, misspelled}
 use Rattle.sheet.specs.Spelling.{lines}
-use Rattle.sheet.specs.Cut.{lines-none}
+use Rattle.sheet.specs.Spelling.Cut.{lines-none}
 use Rattle.sheet.specs.Questions.{plus, held, result, excessFrom, excess}
-use Rattle.survey.specs.State.{leftAfter}
+use Rattle.survey.specs.Survey.State.{leftAfter}
 use Rattle.survey.proofs.Judged.{left-most}
-use Rattle.reader.specs.Limbs.{limbs}
-use Rattle.reader.specs.Accumulator.{Parts, Roomy, Holds, Loaded, Doubled, Added}
+use Rattle.reader.specs.Body.Limbs.{limbs}
+use Rattle.reader.specs.Body.Accumulator.{Parts, Roomy, Holds, Loaded, Doubled, Added}
 use Rattle.reader.specs.declared.accumulator.Number.{Number}
 use Rattle.reader.specs.declared.accumulator.Accumulator.{Accumulator}
 use Rattle.reader.specs.declared.limbs.Sum.{Sum}

@@ -12,13 +12,14 @@ use lib.ListN.{length, getD, drop, set, length-set, length-replicate}
 use lib.Pow.{pow-pos, pow-mono}
 use lib.Seq.{getD-set-same, getD-set-other}
 use borrow.Author.Tests.{ne-eqb, eqb-true, eqb-false}
-use Rattle.digits.specs.Integer.{up, down, sum}
+use Rattle.digits.specs.Integer.{up, down}
+use Rattle.digits.specs.Integer.Parts.{sum}
 use Rattle.sheet.specs.Plan.{Point, point}
 use Rattle.sheet.specs.Questions.{sameNumber}
 use Rattle.lines.specs.Coded.{signed, whole, codedPoint, pointOf}
 use Rattle.lines.specs.declared.point.Point as point-of
-use Rattle.reader.specs.Limbs.{limb, limbs, value, room, Low, Zeros}
-use Rattle.reader.specs.Accumulator.{Parts, Plus, Roomy, Is}
+use Rattle.reader.specs.Body.Limbs.{limb, limbs, value, room, Low, Zeros}
+use Rattle.reader.specs.Body.Accumulator.{Parts, Plus, Roomy, Is}
 use Rattle.reader.specs.declared.accumulator.Number.{Number}
 use Rattle.reader.specs.declared.limbs.Sum.{Sum}
 use Rattle.reader.proofs.LimbTurns.{same-test, zero-value, zero-limb}

@@ -4,11 +4,11 @@ use mathlib.Core.List.{List, [], _∷_, _++_, append-assoc, append-nil}
 use Prim.Native.Nat.{ℕ, zero, suc, _+_, _/_, _%_, _^_, _≤_, _<_}
 use native.Mathlib.Nat.{pow-suc}
 use native.Mathlib.Omega.{arith}
-use lib.ListN.{length, drop, set}
-use lib.Seq.{set-split, drop-at, length-take-le}
+use lib.ListN.{length, take, drop, set}
+use lib.Seq.{set-split, drop-at, length-take-le, take-take}
 use borrow.Author.Tests.{lt-ltb}
 use Rattle.sheet.specs.Numeral.{figure, numeral}
-use Rattle.sheet.specs.NumeralFigures.{numeral-low, numeral-high}
+use Rattle.sheet.specs.Numeral.Figures.{numeral-low, numeral-high}
 use Rattle.reader.specs.Text.{Before}
 use Rattle.reader.specs.declared.text.Text.{Text}
 
@@ -29,15 +29,23 @@ numeral-more n h = numeral-high 10 (omega arith) n h ∙ ap (λ (l : List ℕ). 
 pub byte-before : (bytes : List ℕ) (at b : ℕ) → at < length bytes → drop at (set bytes at b) ≡ b ∷ drop (at + 1) bytes
 byte-before bytes at b h =
     ap (drop at) (set-split bytes at b h)
-    ∙ drop-at (lib.ListN.take at bytes) (b ∷ drop (suc at) bytes) at (length-take-le at bytes (omega arith))
+    ∙ drop-at (take at bytes) (b ∷ drop (suc at) bytes) at (length-take-le at bytes (omega arith))
     ∙ ap (λ (n : ℕ). b ∷ drop n bytes) (sym (native.Mathlib.Numerals.add-one at))
 
 pub before-self : (t : Text) → length (t .bytes) ≡ 64 → Before t [] t
-before-self t h = record { long = h; at = omega arith; is = refl }
+before-self t h = record { long = h; at = omega arith; is = refl; front = refl }
 
 pub before-more : {t u r : Text} {s : List ℕ} {b : ℕ} → Before t s u → Before u (b ∷ []) r → Before t (b ∷ s) r
-before-more {b = b} p q =
-    record { long = q .long; at = omega (arith, p .at, q .at); is = q .is ∙ ap (λ (l : List ℕ). b ∷ l) (p .is) }
+before-more {t} {u} {r} {b = b} p q =
+    let low : r .at ≤ u .at = omega (arith, q .at) in
+    record {
+      long = q .long;
+      at = omega (arith, p .at, q .at);
+      is = q .is ∙ ap (λ (l : List ℕ). b ∷ l) (p .is);
+      front =
+          q .front ∙ sym (take-take (r .at) (u .at) (u .bytes) low) ∙ ap (take (r .at)) (p .front)
+          ∙ take-take (r .at) (u .at) (t .bytes) low;
+    }
 
 -- ── a decimal, from its last figure ─────────────────────────────────────────────────────────
 

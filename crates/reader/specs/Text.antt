@@ -1,8 +1,9 @@
 -- The line that the reader program prints.
+pub mod Held
 use mathlib.Core.Path.{_≡_}
 use mathlib.Core.List.{List, _∷_, _++_}
 use Prim.Native.Nat.{ℕ, _+_, _≤_}
-use lib.ListN.{length, drop}
+use lib.ListN.{length, take, drop, replicate}
 use Rattle.sheet.specs.Ascii.{ascii}
 use Rattle.sheet.specs.Spelling.{decimal, comma}
 use Rattle.sheet.specs.Answer.{Answer}
@@ -20,9 +21,10 @@ judgementLine (Refused number line) = ascii "N," ++ decimal number ++ comma ∷ 
 abbrev pub answerLine : Answer → List ℕ
 answerLine a = judgementLine (judgement a)
 
--- the bytes of a text
-abbrev pub bytesOf : Text → List ℕ
-bytesOf t = drop (t .at) (t .bytes)
+-- the text is s, at the end of 64 bytes that are 0 before it
+pub record Holds (t : Text) (s : List ℕ) : Type 0 where
+  pub bytes-are : t .bytes ≡ replicate (t .at) 0 ++ s
+  pub ends : t .at + length s ≡ 64
 
 -- n bytes more have room
 pub record Room (t : Text) (n : ℕ) : Type 0 where
@@ -30,8 +32,9 @@ pub record Room (t : Text) (n : ℕ) : Type 0 where
   pub least : n ≤ t .at
   pub most : t .at ≤ 64
 
--- the text r is the text t with s in front
+-- the text r is the text t with s in front; before it the bytes are as they were
 pub record Before (t : Text) (s : List ℕ) (r : Text) : Type 0 where
   pub long : length (r .bytes) ≡ 64
   pub at : r .at + length s ≡ t .at
-  pub is : bytesOf r ≡ s ++ bytesOf t
+  pub is : drop (r .at) (r .bytes) ≡ s ++ drop (t .at) (t .bytes)
+  pub front : take (r .at) (r .bytes) ≡ take (r .at) (t .bytes)

@@ -1,6 +1,6 @@
 ghost use Prim.Native.Nat.{_*_};
 ghost use Rattle.lines.specs.Coded.{whole, pointOf};
-ghost use Rattle.reader.specs.Accumulator.{Parts, Plus, Roomy, Loaded, Doubled, Added};
+ghost use Rattle.reader.specs.Body.Accumulator.{Parts, Plus, Roomy, Loaded, Doubled, Added};
 use lines::Point;
 use lines::Signed;
 

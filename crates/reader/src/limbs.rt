@@ -4,7 +4,7 @@ ghost use Prim.Native.Nat.{_+_, _≤_};
 ghost use lib.Dec.{eqb};
 ghost use lib.ListN.{length};
 ghost use Rattle.sheet.specs.Numeral.{figures, followed};
-ghost use Rattle.reader.specs.Limbs.{limb, value, Low, Zeros, Below};
+ghost use Rattle.reader.specs.Body.Limbs.{limb, value, Low, Zeros, Below};
 
 // The limbs of a sum.
 const LIMBS: usize = 34;

@@ -4,7 +4,7 @@ ghost use Rattle.sheet.specs.Spelling.{lines};
 ghost use Rattle.sheet.specs.Answer.{heading};
 ghost use Rattle.sheet.specs.Questions.{wrong, unless, result};
 ghost use Rattle.survey.specs.Survey.{Clear};
-ghost use Rattle.reader.specs.Accumulator.{Holds};
+ghost use Rattle.reader.specs.Body.Accumulator.{Holds};
 use crate::accumulator::Accumulator;
 use crate::limbs::Sum;
 use lines::Line;

@@ -5,7 +5,7 @@ ghost use lib.ListN.{length};
 ghost use Rattle.digits.specs.Limits.{card};
 ghost use Rattle.sheet.specs.Numeral.{numeral};
 ghost use Rattle.sheet.specs.Answer.{answer};
-ghost use Rattle.reader.specs.Text.{Room, Before, bytesOf, judgementLine, answerLine};
+ghost use Rattle.reader.specs.Text.{Room, Before, Holds, judgementLine, answerLine};
 use crate::judge::Judgement;
 
 // A text at the end of an array: its bytes from `at` on.
@@ -17,7 +17,7 @@ pub struct Text {
 impl Text {
     // No bytes.
     fn empty() -> Text
-        ensures { λ r. ⌜ (length (r .bytes) ≡ 64) × ((r .at ≡ 64) × (bytesOf r ≡ [])) ⌝ }
+        ensures { λ r. ⌜ (length (r .bytes) ≡ 64) × ((r .at ≡ 64) × Holds r []) ⌝ }
     {
         Text {
             bytes: [0u8; 64],
@@ -55,7 +55,7 @@ impl Text {
 
 // The line of a refusal.
 fn refusal(number: u32, line: usize) -> Text
-    ensures { λ r. ⌜ (bytesOf r ≡ judgementLine (Judgement.Refused number line)) × ((r .at ≤ 64) × (length (r .bytes) ≡ 64)) ⌝ }
+    ensures { λ r. ⌜ Holds r (judgementLine (Judgement.Refused number line)) ⌝ }
 {
     let end = Text::empty().with(b'\n');
     let place = end.with_decimal(line as u64).with(b',');
@@ -64,7 +64,7 @@ fn refusal(number: u32, line: usize) -> Text
 
 // The line that answers a sheet: `Y`, or `N,number,line`, each with its line feed.
 pub fn verdict(sheet: &[u8]) -> Text
-    ensures { λ r. ⌜ (bytesOf r ≡ answerLine (answer card (now (sheet .entry)))) × ((r .at ≤ 64) × (length (r .bytes) ≡ 64)) ⌝ }
+    ensures { λ r. ⌜ Holds r (answerLine (answer card (now (sheet .entry)))) ⌝ }
 {
     let judgement = crate::judge::read(sheet);
     match judgement {

@@ -7,17 +7,17 @@ use native.Mathlib.Omega.{arith}
 use lib.IntN.{ℤ, pos, natAbs, _-ℤ_}
 use lib.ListN.{length, set, replicate, length-set}
 use Rattle.digits.specs.Byte.{byteOf}
-use Rattle.digits.specs.Bytes.{Bytes}
+use Rattle.digits.specs.Scalar.{Bytes}
 use Rattle.digits.specs.Column as Column
 use Rattle.digits.specs.Integer.{up, half}
 use Rattle.digits.specs.Scalar.{little}
 use Rattle.digits.specs.Two.{Two, P, Q, of, two}
 use Rattle.forms.specs.Joint.{joint, digit, rest}
-use Rattle.forms.specs.JointDigit.{digit-mod, digit-fits, joint-rest-pos}
-use Rattle.forms.specs.JointRule.{BothZero}
+use Rattle.forms.specs.Joint.Digit.{digit-mod, digit-fits, joint-rest-pos}
+use Rattle.forms.specs.Joint.Rule.{BothZero}
 use Rattle.recode.specs.declared.low.Low.{Low}
 use Rattle.recode.specs.Call.{filled}
-use Rattle.recode.specs.Remainder.{remaining, Held}
+use Rattle.recode.specs.Body.Remainder.{remaining, Held}
 use Rattle.recode.proofs.LowRemainder.{Used, remaining-new, remaining-zero, remaining-some, remaining-less, sixty-four}
 use Rattle.recode.proofs.JointTurns.{Turn, relaid, start, store, stop, room}
 

@@ -10,8 +10,8 @@ use Rattle.digits.specs.Column as Column
 use Rattle.digits.specs.Two as Two
 use Rattle.digits.specs.Two.{Two, P, of, two}
 use Rattle.forms.specs.Joint.{joint, column, digit, rest}
-use Rattle.forms.specs.JointRule.{BothZero, joint-unfold, joint-zero}
-use Rattle.forms.specs.JointValue.{column-digit}
+use Rattle.forms.specs.Joint.Rule.{BothZero, joint-unfold, joint-zero}
+use Rattle.forms.specs.Joint.Value.{column-digit}
 use Rattle.recode.specs.Call.{filled}
 use Rattle.recode.proofs.Laid.{Laid, laid-none, laid-digit}
 

@@ -10,7 +10,8 @@ use lib.Count.{trailingZeros, under}
 use lib.ListN.{length, getD, drop, drop-of-length-le}
 use lib.Pow.{pow-add, pow-pos, pow-mono, shl-exact}
 use lib.IntN.{ℤ, pos, negsuc, natAbs, _-ℤ_, pos-ne-negsuc}
-use Rattle.digits.specs.Integer.{up, down, half, difference, size}
+use Rattle.digits.specs.Integer.{up, down, half}
+use Rattle.digits.specs.Integer.Parts.{difference, size}
 use Rattle.digits.specs.Scalar.{little}
 
 -- the bytes from a place on are the byte there and those above it, also past the end

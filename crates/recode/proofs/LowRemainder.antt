@@ -8,15 +8,17 @@ use native.Mathlib.Omega.{arith}
 use lib.IntN.{ℤ, pos, negsuc, _-ℤ_}
 use lib.ListN.{drop}
 use lib.Pow.{pow-add, pow-pos, pow-mono}
-use Rattle.digits.specs.Bytes.{Bytes, bytes-power}
-use Rattle.digits.specs.Integer.{up, down, half, difference, one-side}
-use Rattle.digits.specs.Length.{below-length, length-least}
+use Rattle.digits.specs.Scalar.Value.{bytes-power}
+use Rattle.digits.specs.Scalar.{Bytes}
+use Rattle.digits.specs.Integer.{up, down, half}
+use Rattle.digits.specs.Integer.Parts.{difference, one-side}
+use Rattle.digits.specs.Scalar.Length.{below-length, length-least}
 use Rattle.digits.specs.Scalar.{little, bitLength}
-use Rattle.forms.specs.DigitOnly.{digit-mod}
+use Rattle.forms.specs.Row.Digit.{digit-mod}
 use Rattle.forms.specs.Residue.{width}
 use Rattle.forms.specs.Row.{digit}
 use Rattle.recode.specs.declared.low.Low.{Low}
-use Rattle.recode.specs.Remainder.{remaining}
+use Rattle.recode.specs.Body.Remainder.{remaining}
 use Rattle.recode.proofs.LowBits.{half-parts}
 
 pub remaining-new : (bytes : List ℕ) (s : Low) → (s .at ≡ 0) × ((s .bits ≡ 0) × (s .low ≡ 0)) → remaining bytes s ≡ little bytes

@@ -1,26 +1,14 @@
 -- Lending the first places of a cleared buffer: they are cleared too, and what is filled there fills the whole buffer.
 use mathlib.Core.Path.{_≡_, refl, sym, ap, _∙_}
-use mathlib.Core.List.{List, _∷_, _++_, reverse, append-assoc}
+use mathlib.Core.List.{List, _++_, reverse, append-assoc}
 use Prim.Native.Nat.{ℕ, zero, suc, _+_, _-_, _≤_}
-use native.Mathlib.Nat.{le-of-suc-le-suc}
 use native.Mathlib.Omega.{arith}
 use lib.IntN.{ℤ}
 use lib.ListN.{length, take, drop, replicate, length-replicate, replicate-append-replicate}
-use Rattle.digits.specs.Bytes.{little-append}
+use Rattle.digits.specs.Buffer.Zeros.{take-zeros, drop-zeros}
+use Rattle.digits.specs.Scalar.Value.{little-append}
 use Rattle.digits.specs.Scalar.{little, scalar}
 use Rattle.recode.specs.Call.{filled}
-
-take-zeros : (k n : ℕ) → k ≤ n → take {A = ℕ} k (replicate n 0) ≡ replicate k 0
-take-zeros zero n h = refl
-take-zeros (suc k) zero h = absurd (omega arith)
-take-zeros (suc k) (suc n) h = ap (λ (l : List ℕ). 0 ∷ l) (take-zeros k n (le-of-suc-le-suc h))
-
-drop-zeros : (k n : ℕ) → k ≤ n → drop {A = ℕ} k (replicate n 0) ≡ replicate (n - k) 0
-drop-zeros zero n h = let e : n ≡ n - 0 = omega arith in ap (λ (i : ℕ). replicate i 0) e
-drop-zeros (suc k) zero h = absurd (omega arith)
-drop-zeros (suc k) (suc n) h =
-    let e : n - k ≡ suc n - suc k = omega arith in
-    drop-zeros k n (le-of-suc-le-suc h) ∙ ap (λ (i : ℕ). replicate i 0) e
 
 -- the first k places of a cleared buffer
 module _ (out₀ out : List ℕ) (k : ℕ) (cleared : out ≡ replicate (length out₀) 0) (h : k ≤ length out₀) where

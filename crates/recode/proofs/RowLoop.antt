@@ -6,18 +6,18 @@ use native.Mathlib.Omega.{arith}
 use lib.IntN.{ℤ, pos, natAbs, _-ℤ_}
 use lib.ListN.{length, set, replicate, length-set}
 use Rattle.digits.specs.Byte.{byteOf}
-use Rattle.digits.specs.Bytes.{Bytes}
+use Rattle.digits.specs.Scalar.{Bytes}
 use Rattle.digits.specs.Integer.{half}
 use Rattle.digits.specs.Scalar.{little}
-use Rattle.forms.specs.DigitOnly.{digit-meets, digit-mod}
-use Rattle.forms.specs.OddDigit.{digit-small}
+use Rattle.forms.specs.Row.Digit.{digit-meets, digit-mod}
+use Rattle.forms.specs.Row.OddDigit.{digit-small}
 use Rattle.forms.specs.Residue.{width}
 use Rattle.forms.specs.Row.{row, digit, rest}
-use Rattle.forms.specs.RowNatural.{rest-pos}
-use Rattle.forms.specs.Width.{width-least}
+use Rattle.forms.specs.Row.Natural.{rest-pos}
+use Rattle.forms.specs.Residue.Width.{width-least}
 use Rattle.recode.specs.declared.low.Low.{Low}
 use Rattle.recode.specs.Call.{filled}
-use Rattle.recode.specs.Remainder.{remaining, Held}
+use Rattle.recode.specs.Body.Remainder.{remaining, Held}
 use Rattle.recode.proofs.LowRemainder.{Used, remaining-new, remaining-shifted, remaining-zero, remaining-some, remaining-less, digit-low}
 use Rattle.recode.proofs.RowTurns.{Turn, start, skip, store, stop, room, bound}
 

@@ -9,8 +9,8 @@ use lib.ListN.{length, set, replicate, length-append, length-replicate}
 use Rattle.digits.specs.Byte.{byteOf}
 use Rattle.digits.specs.Integer.{up}
 use Rattle.forms.specs.Row.{row, digit, rest}
-use Rattle.forms.specs.RowNatural.{row-zeros}
-use Rattle.forms.specs.RowOnly.{row-zero, row-unfold}
+use Rattle.forms.specs.Row.Natural.{row-zeros}
+use Rattle.forms.specs.Row.Only.{row-zero, row-unfold}
 use Rattle.recode.specs.Call.{filled}
 use Rattle.recode.proofs.Laid.{Laid, laid-none, laid-zeros, laid-digit}
 

@@ -9,12 +9,12 @@ use lib.Count.{leadingZeros, leading-length}
 use lib.Dec.{ltb}
 use lib.IntN.{ℤ, pos, _-ℤ_}
 use lib.Pow.{pow-mono, shl-exact}
-use Rattle.digits.specs.Length.{length-exact, length-least}
+use Rattle.digits.specs.Scalar.Length.{length-exact, length-least}
 use Rattle.digits.specs.Scalar.{bitLength, bitLengthIn}
 use Rattle.forms.specs.Residue.{residue, width}
 use Rattle.forms.specs.Row.{digit}
 use Rattle.forms.specs.Test.{same, everyBelow}
-use Rattle.forms.specs.Width.{width-least}
+use Rattle.forms.specs.Residue.Width.{width-least}
 
 -- 2^(W−1) from the leading zeros of m
 pub window-length : (m : ℕ) → m ≤ 31 → (16 - leadingZeros 16 m ≡ width m - 1) × (width m - 1 ≤ 5)

@@ -1,21 +1,28 @@
--- What the row and joint calls answer and leave in the buffers they are lent, for all input.
+-- What the row and joint calls answer and leave in the buffers they are lent, for all input; and what they promise of the digits
+-- that stand there.
+pub mod Standing
+pub mod Row
+pub mod Joint
+use mathlib.Core.Path.{_≡_}
+use mathlib.Core.Logic.{_≢_}
 use mathlib.Core.Bool.{Bool, _&&_, cond}
-use mathlib.Core.List.{List, _++_, map}
-use Prim.Native.Nat.{ℕ, _+_, _-_, _*_, max}
+use mathlib.Core.List.{List, [], _∷_, _++_, map}
+use Prim.Native.Nat.{ℕ, suc, _+_, _-_, _*_, _≤_, max}
 use lib.Dec.{leb}
-use lib.ListN as ListN
-use lib.ListN.{replicate}
+use lib.ListN.{length, getD, replicate}
 use lib.IntN.{ℤ, pos}
+use Rattle.digits.specs.Buffer.{rowBelow, columnsBelow}
 use Rattle.digits.specs.Byte.{byteOf}
+use Rattle.digits.specs.Column as Columns
 use Rattle.digits.specs.Limits.{Limits}
-use Rattle.digits.specs.Row.{isWindow}
+use Rattle.digits.specs.Missed.{missed}
+use Rattle.digits.specs.Row.{isWindow, value, weight, Over}
 use Rattle.digits.specs.Scalar.{scalar, sized}
+use Rattle.digits.specs.Two.{Column, Two, P, Q, of, two}
+use Rattle.forms.specs.Joint.{Keeps, Topped, joint}
+use Rattle.forms.specs.Row.{RowRule, row}
 use Rattle.recode.specs.declared.answer.Recoded.{Recoded}
 use Rattle.recode.specs.declared.answer.Recoded.the-variants.{BadScalar, BadWindow, NoRoom, Written}
-use Rattle.digits.specs.Column
-use Rattle.digits.specs.Two.{Two, of, two}
-use Rattle.forms.specs.Joint.{joint}
-use Rattle.forms.specs.Row.{row}
 
 -- the number of the question missed, 0 where none is
 abbrev pub number : Recoded → ℕ
@@ -24,30 +31,20 @@ number BadWindow = 2
 number NoRoom = 3
 number (Written n) = 0
 
--- the length of what was written
-abbrev pub length : Recoded → ℕ
-length BadScalar = 0
-length BadWindow = 0
-length NoRoom = 0
-length (Written n) = n
+-- how many places were written
+abbrev pub placesWritten : Recoded → ℕ
+placesWritten BadScalar = 0
+placesWritten BadWindow = 0
+placesWritten NoRoom = 0
+placesWritten (Written n) = n
 
 -- 3. has the digit buffer at least 8 × bytes + 1 places?
 abbrev pub roomy : ℕ → ℕ → Bool
 roomy bytes places = leb (8 * bytes + 1) places
 
--- the answer of a row call: the first question missed, or the row's length; question 1 is whether the scalar is sized, and question 2
--- whether m is a window
-unfoldable pub rowAnswer : Limits → List ℕ → ℕ → ℕ → Recoded
-rowAnswer limits s m places =
-    cond (sized limits s)
-    (cond (isWindow m)
-    (cond (roomy (ListN.length s) places) (Written (ListN.length (row m (pos (scalar s))))) NoRoom)
-    BadWindow)
-    BadScalar
-
 -- a buffer with the digits from place 0 on, and 0 at the unused places
 abbrev pub filled : List ℤ → List ℕ → List ℕ
-filled ds buffer = map byteOf ds ++ replicate (ListN.length buffer - ListN.length ds) 0
+filled ds buffer = map byteOf ds ++ replicate (length buffer - length ds) 0
 
 -- the buffer after a call: filled, or as lent where a question was missed
 abbrev pub left : Recoded → List ℤ → List ℕ → List ℕ
@@ -56,21 +53,74 @@ left BadWindow ds buffer = buffer
 left NoRoom ds buffer = buffer
 left (Written n) ds buffer = filled ds buffer
 
-unfoldable pub rowBuffer : Limits → List ℕ → ℕ → List ℕ → List ℕ
-rowBuffer limits s m buffer =
-    left (rowAnswer limits s m (ListN.length buffer)) (row m (pos (scalar s))) buffer
+-- ── a row ───────────────────────────────────────────────────────────────────────────────────
 
--- the answer of a joint call: question 1 of both scalars, question 3 of both rows by the longer scalar, or the length
+-- the questions: 1. is the scalar sized? 2. is m a window? 3. is the buffer roomy?
+abbrev pub rowQuestion : Limits → List ℕ → ℕ → ℕ → ℕ
+rowQuestion limits s m places = missed ((1, sized limits s) ∷ (2, isWindow m) ∷ (3, roomy (length s) places) ∷ [])
+
+-- the answer: the first question missed, or the row's length
+unfoldable pub rowAnswer : Limits → List ℕ → ℕ → ℕ → Recoded
+rowAnswer limits s m places =
+    cond (sized limits s) (cond (isWindow m) (cond (roomy (length s) places) (Written (length (row m (pos (scalar s))))) NoRoom) BadWindow) BadScalar
+
+-- the buffer
+unfoldable pub rowBuffer : Limits → List ℕ → ℕ → List ℕ → List ℕ
+rowBuffer limits s m buffer = left (rowAnswer limits s m (length buffer)) (row m (pos (scalar s))) buffer
+
+-- what is promised of a row ds for the window m and the scalar c
+pub record RowOf (m c : ℕ) (ds : List ℤ) : Type 0 where
+  -- it is 01's
+  pub rule : RowRule m (pos c) ds
+  -- its digits are the window's, it reads back to c, and its top digit is not 0
+  pub digits : Over m ds
+  pub reads : value ds ≡ pos c
+  pub top : (i : ℕ) → length ds ≡ suc i → getD ds i (pos 0) ≢ pos 0
+  -- no row over the same digits has fewer non-zero ones
+  pub fewest : (es : List ℤ) → Over m es → value es ≡ pos c → weight ds ≤ weight es
+
+-- where n places were written, the row below n is such a one
+abbrev pub RowPromised : ℕ → ℕ → Recoded → List ℕ → Type 0
+RowPromised m c BadScalar buffer = Unit {0}
+RowPromised m c BadWindow buffer = Unit {0}
+RowPromised m c NoRoom buffer = Unit {0}
+RowPromised m c (Written n) buffer = RowOf m c (rowBelow n buffer)
+
+-- ── a joint form ────────────────────────────────────────────────────────────────────────────
+
+-- the questions: 1 of both scalars; 3 of both rows, by the longer scalar
+abbrev pub jointQuestion : Limits → List ℕ → List ℕ → ℕ → ℕ → ℕ
+jointQuestion limits s t places places′ =
+    missed ((1, sized limits s) ∷ (1, sized limits t) ∷ (3, roomy (max (length s) (length t)) places) ∷ (3, roomy (max (length s) (length t)) places′) ∷ [])
+
+-- the answer: the first question missed, or the length
 unfoldable pub jointAnswer : Limits → List ℕ → List ℕ → ℕ → ℕ → Recoded
 jointAnswer limits s t places places′ =
     cond (sized limits s && sized limits t)
-    (cond (roomy (max (ListN.length s) (ListN.length t)) places && roomy (max (ListN.length s) (ListN.length t)) places′)
-    (Written (ListN.length (joint (pos (scalar s)) (pos (scalar t)))))
+    (cond (roomy (max (length s) (length t)) places && roomy (max (length s) (length t)) places′)
+    (Written (length (joint (pos (scalar s)) (pos (scalar t)))))
     NoRoom)
     BadScalar
 
--- one of the two buffers after a joint call
+-- one of the two buffers
 unfoldable pub jointBuffer : Limits → Two → List ℕ → List ℕ → List ℕ → List ℕ → List ℕ
 jointBuffer limits r s t buffer buffer′ =
-    left (jointAnswer limits s t (ListN.length buffer) (ListN.length buffer′)) (Column.row two r (joint (pos (scalar s)) (pos (scalar t))))
+    left (jointAnswer limits s t (length buffer) (length buffer′)) (Columns.row two r (joint (pos (scalar s)) (pos (scalar t))))
     (of buffer buffer′ r)
+
+-- what is promised of joint columns cs for k and l
+pub record JointOf (k l : ℕ) (cs : List Column) : Type 0 where
+  -- they keep the joint sparse rules, the top one is not zero, and they read back to k and l
+  pub keeps : Keeps cs
+  pub topped : Topped cs
+  pub reads-k : value (Columns.row two P cs) ≡ pos k
+  pub reads-l : value (Columns.row two Q cs) ≡ pos l
+  -- every list that does so is equal to them
+  pub only : (ds : List Column) → Keeps ds → Topped ds → value (Columns.row two P ds) ≡ pos k → value (Columns.row two Q ds) ≡ pos l → ds ≡ cs
+
+-- where n places were written, the columns below n are such ones
+abbrev pub JointPromised : ℕ → ℕ → Recoded → List ℕ → List ℕ → Type 0
+JointPromised k l BadScalar buffer buffer′ = Unit {0}
+JointPromised k l BadWindow buffer buffer′ = Unit {0}
+JointPromised k l NoRoom buffer buffer′ = Unit {0}
+JointPromised k l (Written n) buffer buffer′ = JointOf k l (columnsBelow n buffer buffer′)

@@ -1,4 +1,3 @@
-pub mod Remainder
 pub mod Call
-pub mod RowAnswers
-pub mod JointAnswers
+pub mod Promise
+pub mod Body

@@ -10,7 +10,7 @@ ghost use Rattle.digits.specs.Scalar;
 ghost use Rattle.digits.specs.Scalar.{little, bitLength};
 ghost use Rattle.digits.specs.Two.{P, Q, two};
 ghost use Rattle.forms.specs.Joint;
-ghost use Rattle.recode.specs.Call.{jointAnswer, jointBuffer, filled};
+ghost use Rattle.recode.specs.Call.{number, jointQuestion, jointAnswer, jointBuffer, JointPromised, filled};
 use crate::answer::Recoded;
 use crate::low::Low;
 
@@ -119,6 +119,8 @@ pub fn joint(k: &[u8], l: &[u8], k_digits: &mut [u8], l_digits: &mut [u8]) -> Re
     ensures answer { λ r. ⌜ r ≡ jointAnswer card (now (k .entry)) (now (l .entry)) (length (now («k_digits» .entry))) (length (now («l_digits» .entry))) ⌝ }
     ensures first { λ _. ⌜ now («k_digits» .exit) ≡ jointBuffer card P (now (k .entry)) (now (l .entry)) (now («k_digits» .entry)) (now («l_digits» .entry)) ⌝ }
     ensures second { λ _. ⌜ now («l_digits» .exit) ≡ jointBuffer card Q (now (k .entry)) (now (l .entry)) (now («k_digits» .entry)) (now («l_digits» .entry)) ⌝ }
+    ensures promised { λ r. ⌜ JointPromised (Scalar.scalar (now (k .entry))) (Scalar.scalar (now (l .entry))) r (now («k_digits» .exit)) (now («l_digits» .exit)) ⌝ }
+    ensures question { λ r. ⌜ number r ≡ jointQuestion card (now (k .entry)) (now (l .entry)) (length (now («k_digits» .entry))) (length (now («l_digits» .entry))) ⌝ }
 {
     if digits::are_scalars(k, l) {
         let room = 8 * larger(k.len(), l.len()) + 1;

@@ -2,12 +2,13 @@ ghost use mathlib.Core.Path.{_≡_};
 ghost use Prim.Native.Nat.{ℕ, _-_, _%_, _^_, _<_, _≤_};
 ghost use lib.IntN.{pos, natAbs, _-ℤ_};
 ghost use Rattle.digits.specs.Integer.{half};
+ghost use Rattle.digits.specs.Row.{widest};
 ghost use Rattle.forms.specs.Residue.{width};
 ghost use Rattle.forms.specs.Row.{digit};
 
 // 2^(W−1) of a window.
 pub fn half_of(m: u16) -> u16
-    requires { ⌜ m ≤ 31 ⌝ }
+    requires { ⌜ m ≤ widest ⌝ }
     ensures { λ r. ⌜ r ≡ 2 ^ (width m - 1) ⌝ }
 {
     1u16 << (16 - u16::leading_zeros(m))
@@ -23,7 +24,7 @@ fn half_from(x: u16, limit: u16, half: u16) -> u16
 // The digit of an odd x below 64 for the window m, whose 2^(W−1) is half: x modulo 2^W, less a half beyond m, and less
 // another from 2^W − m on.
 pub fn digit_of(x: u16, m: u16, half: u16) -> i16
-    requires { ⌜ (x < 64) × ((x % 2 ≡ 1) × ((1 ≤ m) × ((m ≤ 31) × (half ≡ 2 ^ (width m - 1))))) ⌝ }
+    requires { ⌜ (x < 64) × ((x % 2 ≡ 1) × ((1 ≤ m) × ((m ≤ widest) × (half ≡ 2 ^ (width m - 1))))) ⌝ }
     ensures { λ r. ⌜ r ≡ digit m (pos x) ⌝ }
 {
     let low = x & (2 * half - 1);

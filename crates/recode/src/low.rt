@@ -4,7 +4,7 @@ ghost use lib.ListN.{length, getD, drop};
 ghost use lib.IntN.{pos, natAbs, _-ℤ_};
 ghost use Rattle.digits.specs.Integer.{half};
 ghost use Rattle.digits.specs.Scalar.{little};
-ghost use Rattle.recode.specs.Remainder.{remaining, Held};
+ghost use Rattle.recode.specs.Body.Remainder.{remaining, Held};
 
 // The low bits of a running remainder, which is low + 2^bits × the bytes from `at` on.
 pub struct Low {

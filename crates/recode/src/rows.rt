@@ -4,11 +4,12 @@ ghost use Prim.Native.Nat.{_+_, _-_, _*_, _/_, _^_, _<_, _≤_};
 ghost use lib.IntN.{pos};
 ghost use lib.ListN.{length, replicate};
 ghost use Rattle.digits.specs.Limits.{card};
+ghost use Rattle.digits.specs.Row.{widest};
 ghost use Rattle.digits.specs.Scalar;
 ghost use Rattle.digits.specs.Scalar.{little, bitLength};
 ghost use Rattle.forms.specs.Residue.{width};
 ghost use Rattle.forms.specs.Row.{row};
-ghost use Rattle.recode.specs.Call.{rowAnswer, rowBuffer, filled};
+ghost use Rattle.recode.specs.Call.{number, rowQuestion, rowAnswer, rowBuffer, RowPromised, filled};
 use crate::answer::Recoded;
 use crate::low::Low;
 
@@ -26,7 +27,7 @@ pub fn ended(low: Low, used: usize) -> bool
 // Writes the row of the bytes' number into places that hold 0, and returns its length. `used` counts the bytes up to the
 // top one that is not 0, and half is 2^(W−1) of the window m.
 fn write_digits(bytes: &[u8], used: usize, m: u16, half: u16, out: &mut [u8]) -> usize
-    requires { ⌜ (1 ≤ m) × ((m ≤ 31) × (half ≡ 2 ^ (width m - 1))) ⌝ }
+    requires { ⌜ (1 ≤ m) × ((m ≤ widest) × (half ≡ 2 ^ (width m - 1))) ⌝ }
     requires { ⌜ used ≡ (bitLength (little (now bytes)) + 7) / 8 ⌝ }
     requires { ⌜ (now out ≡ replicate (length (now out)) 0) × (length (row m (pos (little (now bytes)))) ≤ length (now out)) ⌝ }
     ensures { λ r. ⌜ r ≡ length (row m (pos (little (now (bytes .entry))))) ⌝ }
@@ -66,7 +67,7 @@ pub fn bits_of(scalar: &[u8]) -> usize
 // Writes the scalar's row for the window m and zeros above it, and returns the row's length. Of the buffer only the places
 // up to the bit length plus one are lent to the digits.
 fn write_row(scalar: &[u8], m: u16, out: &mut [u8]) -> usize
-    requires { ⌜ (length (now scalar) ≤ 66) × ((1 ≤ m) × ((m ≤ 31) × (8 * length (now scalar) + 1 ≤ length (now out)))) ⌝ }
+    requires { ⌜ (length (now scalar) ≤ 66) × ((1 ≤ m) × ((m ≤ widest) × (8 * length (now scalar) + 1 ≤ length (now out)))) ⌝ }
     ensures { λ r. ⌜ r ≡ length (row m (pos (Scalar.scalar (now (scalar .entry))))) ⌝ }
     ensures { λ _. ⌜ now (out .exit) ≡ filled (row m (pos (Scalar.scalar (now (scalar .entry))))) (now (out .entry)) ⌝ }
 {
@@ -83,18 +84,17 @@ fn write_row(scalar: &[u8], m: u16, out: &mut [u8]) -> usize
 pub fn row(scalar: &[u8], m: u32, digits: &mut [u8]) -> Recoded
     ensures answer { λ r. ⌜ r ≡ rowAnswer card (now (scalar .entry)) m (length (now (digits .entry))) ⌝ }
     ensures buffer { λ _. ⌜ now (digits .exit) ≡ rowBuffer card (now (scalar .entry)) m (now (digits .entry)) ⌝ }
+    ensures promised { λ r. ⌜ RowPromised m (Scalar.scalar (now (scalar .entry))) r (now (digits .exit)) ⌝ }
+    ensures question { λ r. ⌜ number r ≡ rowQuestion card (now (scalar .entry)) m (length (now (digits .entry))) ⌝ }
 {
     if digits::is_scalar(scalar) {
-        if m % 2 == 0 {
-            return Recoded::BadWindow;
+        if digits::is_window(m) {
+            if digits.len() < 8 * scalar.len() + 1 {
+                return Recoded::NoRoom;
+            }
+            return Recoded::Written(write_row(scalar, m as u16, digits));
         }
-        if 31 < m {
-            return Recoded::BadWindow;
-        }
-        if digits.len() < 8 * scalar.len() + 1 {
-            return Recoded::NoRoom;
-        }
-        return Recoded::Written(write_row(scalar, m as u16, digits));
+        return Recoded::BadWindow;
     }
     Recoded::BadScalar
 }

@@ -11,8 +11,8 @@ use lib.Seq.{drop-cons, take-suc, take-all, split-at, drop-drop}
 use borrow.Author.Tests.{eq-eqb, ne-eqb}
 use Rattle.sheet.specs.Every.{empty, more, every-append}
 use Rattle.sheet.specs.Spelling.{cut, push, letter}
-use Rattle.sheet.specs.Cut.{Lacks, cut-last, cut-more, cut-some}
-use Rattle.sheet.specs.Field.{First, Behind}
+use Rattle.sheet.specs.Spelling.Cut.{Lacks, cut-last, cut-more, cut-some}
+use Rattle.sheet.specs.Spelling.Field.{First, Behind}
 
 module _ (b : ℕ) (s : List ℕ) (i : ℕ) (h : i < length s) where
   -- a byte other than b is passed

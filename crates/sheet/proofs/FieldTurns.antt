@@ -12,7 +12,7 @@ use lib.ListN.{length, getD, drop, drop-of-length-le}
 use lib.Seq.{drop-cons}
 use borrow.Author.Tests.{lt-ltb, le-ltb, le-leb, lt-leb, ltb-true}
 use Rattle.sheet.specs.Numeral.{worth, padded, figures, followed, number}
-use Rattle.sheet.specs.Field.{isNumeral, decimalOf}
+use Rattle.sheet.specs.Spelling.Field.{isNumeral, decimalOf}
 use Rattle.sheet.specs.declared.figures.Decimal.the-variants.{Is, None}
 
 module _ (base : ℕ) (s : List ℕ) (i : ℕ) (h : i < length s) where

@@ -1,4 +1,5 @@
 -- The answer to a sheet, and when it is accepted for k and l.
+pub mod Exactly
 use mathlib.Core.Path.{_≡_}
 use mathlib.Core.List.{List, [], _∷_}
 use mathlib.Core.Option.{Option, none, some}

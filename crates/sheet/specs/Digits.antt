@@ -1,4 +1,5 @@
 -- The digits of a sheet: the columns that its steps make, place 0 first, and when they are a plan's.
+pub mod Accepted
 use mathlib.Core.Path.{_≡_}
 use mathlib.Core.List.{List, [], _∷_}
 use Prim.Native.Nat.{ℕ, _+_, _-_}

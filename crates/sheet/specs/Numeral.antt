@@ -1,4 +1,7 @@
 -- Numbers in figures of a base up to sixteen, the most significant first: how they are spelled, and how they are read.
+pub mod Figures
+pub mod Below
+pub mod Read
 use mathlib.Core.Bool.{Bool, true, false, not, _&&_, cond}
 use mathlib.Core.List.{List, [], _∷_, _++_}
 use mathlib.Core.Option.{Option, none, some}

@@ -1,4 +1,5 @@
 -- Plans: the slots that each needs, the points of its T lines, and what these cost.
+pub mod Cost
 use mathlib.Core.Bool.{Bool, cond}
 use mathlib.Core.List.{List, [], _∷_, _++_, map}
 use Prim.Native.Nat.{ℕ, zero, suc, _+_, _-_, _/_}

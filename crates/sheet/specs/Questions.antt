@@ -1,4 +1,7 @@
 -- The reader's questions 5 to 11, each put to the whole sheet: the line at fault, or none.
+pub mod Placed
+pub mod Planned
+pub mod Allowed
 use mathlib.Core.Bool.{Bool, true, false, not, _&&_, _||_, cond}
 use mathlib.Core.List.{List, [], _∷_}
 use mathlib.Core.Option.{Option, none, some}

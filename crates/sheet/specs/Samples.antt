@@ -1,14 +1,13 @@
 -- Samples, by computation: the sheet of 01 for 7, 2 is accepted, with its additions untrue it is not, and a table of sheets
 -- with their answers.
 use mathlib.Core.Path.{_≡_, refl}
-use mathlib.Core.List.{List, [], _∷_, _++_, map}
-use mathlib.Core.Option.{none, some}
+use mathlib.Core.List.{List, [], _∷_, map}
 use Prim.Native.Nat.{ℕ, zero, suc}
-use Prim.Native.String.{String}
+use Prim.Native.String.{String, _++_}
 use Rattle.digits.specs.Limits.{card}
 use Rattle.sheet.specs.Ascii.{ascii}
 use Rattle.sheet.specs.Plan.{odds}
-use Rattle.sheet.specs.Numeral.{numeralIn, numeral, figures, followed, number}
+use Rattle.sheet.specs.Numeral.{figures, followed, number}
 use Rattle.sheet.specs.Spelling.{cut, readPoint, readHeader, readBehind, readLine, readLines, lines}
 use Rattle.sheet.specs.Questions.{
   tooLong,
@@ -52,14 +51,23 @@ pub sample-untrue : answer card untrue ≡ refused 10 1
 unfolding computed
 sample-untrue = refl
 
+-- a text n times
+unfoldable pub times : ℕ → String → String
+times zero s = ""
+times (suc n) s = s ++ times n s
+
 -- sheets with their answers
-abbrev cases : List (String × Answer)
+abbrev pub cases : List (String × Answer)
 cases =
-    -- nothing at all; no E; a line behind E; a last line without its line feed
+    -- nothing at all; a line behind E; a last line without its line feed
     ("", refused 6 1)
-    ∷ ("S,I,1,1,0,0,0,0,0\n", refused 6 2)
     ∷ ("S,I,1,1,0,0,0,0,0\nE\nE\n", refused 6 3)
     ∷ ("S,I,1,1,0,0,0,0,0\nE", refused 6 2)
+    -- no E behind S, behind T lines, behind L, behind the steps: one past the last line
+    ∷ ("S,I,1,1,0,0,0,0,0\n", refused 6 2)
+    ∷ ("S,I,3,1,1,1,1,0,0\nT,2,0\nT,3,0\n", refused 6 4)
+    ∷ ("S,I,1,1,0,0,0,1,0\nL,1,0\n", refused 6 3)
+    ∷ ("S,I,1,1,0,1,1,3,0\nL,1,0\nD\nA,1,0\n", refused 6 5)
     -- no step, with k = l = 0 and with k = 1
     ∷ ("S,I,1,1,0,0,0,0,0\nE\n", accepted)
     ∷ ("S,I,1,1,0,0,0,1,0\nE\n", refused 11 1)
@@ -71,7 +79,14 @@ cases =
     ∷ ("S,I,1,1,0,0,0,1,0\nL,100,0\nE\n", refused 6 2)
     ∷ ("S,I,1,1,0,0,0,1,0\nL,1,-0\nE\n", refused 6 2)
     ∷ ("S,I,1,1,0,0,0,A,0\nL,1,0\nE\n", refused 6 1)
-    -- an A before L, two L, a T behind L
+    -- in the header: a decimal of four figures, of five; a scalar of 132 figures, of 133
+    ∷ ("S,I,1,1,0,0,9999,0,0\nE\n", refused 10 1)
+    ∷ ("S,I,1,1,0,0,10000,0,0\nE\n", refused 6 1)
+    ∷ ("S,I,1,1,0,0,0," ++ times 132 "f" ++ ",0\nE\n", refused 11 1)
+    ∷ ("S,I,1,1,0,0,0," ++ times 133 "f" ++ ",0\nE\n", refused 6 1)
+    -- no S, two S, an A before L, two L, a T behind L
+    ∷ ("E\n", refused 6 1)
+    ∷ ("S,I,1,1,0,0,0,0,0\nS,I,1,1,0,0,0,0,0\nE\n", refused 6 2)
     ∷ ("S,I,1,1,0,1,0,1,0\nA,1,0\nE\n", refused 6 2)
     ∷ ("S,I,1,1,0,0,0,1,0\nL,1,0\nL,1,0\nE\n", refused 6 3)
     ∷ ("S,I,3,1,1,1,1,1,0\nT,2,0\nL,1,0\nT,3,0\nE\n", refused 6 4)
@@ -85,6 +100,14 @@ cases =
     ∷ ("S,I,3,1,1,1,1,3,0\nT,3,0\nT,2,0\nL,3,0\nE\n", refused 7 2)
     ∷ ("S,I,3,1,1,0,1,3,0\nT,2,0\nL,3,0\nE\n", refused 7 3)
     ∷ ("S,I,3,1,1,1,2,3,0\nT,2,0\nT,3,0\nT,0,2\nL,3,0\nE\n", refused 7 4)
+    -- T lines of two windows: P's and then Q's, Q's first, one of each exchanged
+    ∷ ("S,I,5,3,3,3,2,5,0\nT,2,0\nT,3,0\nT,5,0\nT,0,2\nT,0,3\nL,5,0\nE\n", accepted)
+    ∷ ("S,I,5,3,3,3,2,5,0\nT,0,2\nT,0,3\nT,2,0\nT,3,0\nT,5,0\nL,5,0\nE\n", refused 7 2)
+    ∷ ("S,I,5,3,3,3,2,5,0\nT,2,0\nT,3,0\nT,0,2\nT,5,0\nT,0,3\nL,5,0\nE\n", refused 7 4)
+    -- T lines of J: whole, out of order, none at all
+    ∷ ("S,J,1,1,2,2,0,1,1\nT,1,1\nT,1,-1\nL,1,1\nE\n", accepted)
+    ∷ ("S,J,1,1,2,2,0,1,1\nT,1,-1\nT,1,1\nL,1,1\nE\n", refused 7 2)
+    ∷ ("S,J,1,1,2,0,0,0,0\nE\n", refused 7 2)
     -- digits both 0, even, beyond the window, for both P and Q
     ∷ ("S,J,1,1,2,2,0,0,0\nT,1,1\nT,1,-1\nL,0,0\nE\n", refused 8 4)
     ∷ ("S,I,1,1,0,0,0,2,0\nL,2,0\nE\n", refused 8 2)
@@ -94,6 +117,10 @@ cases =
     ∷ ("S,I,1,1,0,1,0,1,1\nL,1,0\nA,0,1\nE\n", accepted)
     ∷ ("S,I,1,1,0,1,0,1,1\nL,0,1\nA,1,0\nE\n", refused 8 3)
     ∷ ("S,J,1,1,2,3,0,1,1\nT,1,1\nT,1,-1\nL,1,0\nA,0,1\nE\n", refused 8 5)
+    -- 528 D lines; 529, of which the last is at fault; 530, of which the last but one is
+    ∷ ("S,I,1,1,0,1,528," ++ times 132 "f" ++ ",0\nL,1,0\n" ++ times 528 "D\n" ++ "A,-1,0\nE\n", accepted)
+    ∷ ("S,I,1,1,0,1,529," ++ times 132 "f" ++ ",0\nL,1,0\n" ++ times 529 "D\n" ++ "A,-1,0\nE\n", refused 9 531)
+    ∷ ("S,I,1,1,0,1,530," ++ times 132 "f" ++ ",0\nL,1,0\n" ++ times 530 "D\n" ++ "A,-1,0\nE\n", refused 9 531)
     -- table additions left out, the load counted as an addition
     ∷ ("S,J,1,1,2,0,0,1,0\nT,1,1\nT,1,-1\nL,1,0\nE\n", refused 10 1)
     ∷ ("S,I,1,1,0,1,0,1,0\nL,1,0\nE\n", refused 10 1)
@@ -105,36 +132,22 @@ cases =
     -- several faults: the first question decides, not the first line
     ∷ ("S,I,1,1,9,9,9,9,9\nL,2,0\nD\nX\n", refused 6 4)
     ∷ ("S,I,1,1,0,9,9,9,9\nL,1,0\nD\nA,2,0\nE\n", refused 8 4)
+    -- 16,384 bytes and 16,385, misspelled from the first line on
+    ∷ (times 16384 "\n", refused 6 1)
+    ∷ (times 16385 "\n", refused 5 0)
+    -- 6 and 7 missed, 7 and 8, 8 and 9, 9 and 10, 10 and 11: the lower number answers, though its line comes no sooner
+    ∷ ("S,I,1,1,1,0,0,1,0\nL,1,0\nE\nE\n", refused 6 4)
+    ∷ ("S,I,3,1,1,0,1,2,0\nT,2,0\nL,2,0\nE\n", refused 7 3)
+    ∷ ("S,I,1,1,0,2,529," ++ times 131 "f" ++ "e,0\nL,1,0\nD\nA,-1,0\n" ++ times 528 "D\n" ++ "A,-2,0\nE\n", refused 8 533)
+    ∷ ("S,I,1,1,0,2,528," ++ times 132 "f" ++ ",0\nL,1,0\nD\nA,-1,0\n" ++ times 528 "D\n" ++ "A,-1,0\nE\n", refused 9 532)
+    ∷ ("S,I,1,1,0,1,0,1,1\nL,1,0\nE\n", refused 10 1)
+    -- two faults under one question: the first line
+    ∷ ("S,I,1,1,0,0,0,0,0\nD\nX\nE\n", refused 6 2)
+    ∷ ("S,I,5,1,3,2,1,1,0\nT,2,0\nT,5,0\nT,3,0\nL,1,0\nE\n", refused 7 1)
+    ∷ ("S,I,5,1,2,2,1,1,0\nT,2,0\nT,5,0\nT,3,0\nL,1,0\nE\n", refused 7 3)
+    ∷ ("S,I,1,1,0,1,1,6,0\nL,2,0\nD\nA,2,0\nE\n", refused 8 2)
     ∷ []
 
 pub samples : map (λ c. answer card (ascii (c .0))) cases ≡ map (λ c. c .1) cases
-unfolding computed
+unfolding times computed
 samples = refl
-
--- a text n times
-unfoldable pub times : ℕ → List ℕ → List ℕ
-times zero s = []
-times (suc n) s = s ++ times n s
-
--- n doublings of P, less P
-abbrev pub doubled : ℕ → List ℕ → List ℕ
-doubled n k =
-    ascii "S,I,1,1,0,1," ++ numeral 10 n ++ ascii "," ++ k ++ ascii ",0\nL,1,0\n" ++ times n (ascii "D\n") ++ ascii "A,-1,0\nE\n"
-
--- 528 D lines pass; of 529 the last is at fault
-pub doublings-most : answer card (doubled 528 (times 132 (ascii "f"))) ≡ accepted
-unfolding times numeralIn numeral computed
-doublings-most = refl
-
-pub doublings-more : answer card (doubled 529 (times 132 (ascii "f"))) ≡ refused 9 531
-unfolding times numeralIn numeral computed
-doublings-more = refl
-
--- 16,384 bytes pass question 5, and 16,385 do not
-pub bytes-most : tooLong card (times 16384 (ascii "\n")) ≡ none
-unfolding times tooLong
-bytes-most = refl
-
-pub bytes-more : tooLong card (times 16385 (ascii "\n")) ≡ some 0
-unfolding times tooLong
-bytes-more = refl

@@ -1,4 +1,8 @@
 -- The spelling of a sheet: its lines as bytes, and its bytes as lines.
+pub mod Spelled
+pub mod Read
+pub mod Cut
+pub mod Field
 use mathlib.Core.Bool.{cond}
 use mathlib.Core.List.{List, [], _∷_, _++_}
 use mathlib.Core.Option.{Option, none, some}

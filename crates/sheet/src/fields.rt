@@ -4,7 +4,7 @@ ghost use Prim.Native.Nat.{_≤_, _<_};
 ghost use lib.ListN.{length, getD};
 ghost use Rattle.digits.specs.Limits.{card};
 ghost use Rattle.sheet.specs.Spelling.{comma, cut, letter, readDecimal};
-ghost use Rattle.sheet.specs.Field.{First, Behind, isNumeral, decimalOf};
+ghost use Rattle.sheet.specs.Spelling.Field.{First, Behind, isNumeral, decimalOf};
 use crate::figures::Decimal;
 
 const COMMA: u8 = b',';

@@ -3,7 +3,7 @@ ghost use mathlib.Core.Bool.{true};
 ghost use Prim.Native.Nat.{_≤_, _<_, min};
 ghost use lib.ListN.{length};
 ghost use Rattle.sheet.specs.Numeral.{worth, padded, figures, followed, number};
-ghost use Rattle.sheet.specs.Field.{isNumeral, decimalOf};
+ghost use Rattle.sheet.specs.Spelling.Field.{isNumeral, decimalOf};
 
 // A decimal that a field spells, or none.
 pub enum Decimal {

@@ -3,7 +3,6 @@ pub mod fields;
 pub mod figures;
 
 ghost use mathlib.Core.Path.{_≡_};
-ghost use Rattle.digits.specs.Row.{isWindow};
 ghost use Rattle.sheet.specs.Plan.{slots, tableAdditions, tableDoublings, stored, doubled, largest, isLimit, isWithin};
 
 // Plan J uses joint columns; plan I interleaves two rows with windows m1 for P and m2 for Q.
@@ -19,18 +18,8 @@ pub struct Largest {
 }
 
 impl Plan {
-    // The widest window.
-    pub const WIDEST: u32 = 31;
-
     // The highest limit of slots.
     pub const MOST_SLOTS: u32 = 30;
-
-    // Whether m is a window.
-    pub fn is_window(m: u32) -> bool
-        ensures { λ r. ⌜ r ≡ isWindow m ⌝ }
-    {
-        if m % 2 == 1 { m <= Plan::WIDEST } else { false }
-    }
 
     // The slots that the plan needs.
     pub fn slots(self) -> u32

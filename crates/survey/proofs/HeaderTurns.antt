@@ -12,7 +12,7 @@ use Rattle.sheet.specs.Line.{Line, Header, header}
 use Rattle.sheet.specs.Questions.{unless, tableLines, differs, disallowedFrom, disallowed, excessFrom, excess, additions, doublings, afterHeader, misplaced, offPlan, windowed}
 use Rattle.lines.specs.Coded.{kindOf, codedHeader}
 use Rattle.lines.specs.declared.point.Point as point-of
-use Rattle.survey.specs.State.{earlier, leftAfter, planFor, isOnPlan}
+use Rattle.survey.specs.Survey.State.{earlier, leftAfter, planFor, isOnPlan}
 use Rattle.survey.specs.declared.table.Tables as tables-of
 
 module _ (h : Header) (ls : List Line) where

@@ -14,8 +14,8 @@ use Rattle.sheet.specs.Spelling.{lines}
 use Rattle.sheet.specs.Answer.{refused, ask, heading, judged, answer}
 use Rattle.sheet.specs.Questions.{tooLong, misplaced, offPlan, disallowed, excess, additions, doublings, miscounted}
 use Rattle.lines.specs.declared.header.Header as header-of
-use Rattle.survey.specs.State.{found, leftAfter}
-use Rattle.survey.specs.Scan.{Answered, Faultless}
+use Rattle.survey.specs.Survey.State.{found, leftAfter}
+use Rattle.survey.specs.Survey.Scan.{Answered, Faultless}
 use Rattle.survey.specs.Survey.{last, LastLeft, JudgedBy, Surveyed}
 use Rattle.survey.specs.declared.state.State.{State}
 use Rattle.survey.specs.declared.questions.Survey.{Survey}

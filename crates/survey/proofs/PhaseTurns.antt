@@ -15,7 +15,7 @@ use Rattle.sheet.specs.Questions.{tableLines, differs, afterHeader, afterLoad, 
 use Rattle.lines.specs.Coded.{coded}
 use Rattle.lines.specs.declared.point.Point as point-of
 use Rattle.lines.specs.declared.line.Line.the-variants.{Table, Load, Double, Add, End, Other}
-use Rattle.survey.specs.State.{found, earlier, isPlaced, TablesClosed, placedIn, differsIn}
+use Rattle.survey.specs.Survey.State.{found, earlier, isPlaced, TablesClosed, placedIn, differsIn}
 use Rattle.survey.specs.declared.table.Tables as tables-of
 use Rattle.survey.specs.declared.phase.Phase.{Phase}
 use Rattle.survey.specs.declared.phase.Phase.the-variants.{Tables, Steps, Ended}

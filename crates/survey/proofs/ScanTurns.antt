@@ -8,8 +8,8 @@ use Rattle.digits.specs.Limits.{card}
 use Rattle.sheet.specs.Line.{Header, Line, plan, header, table, load, double, add, end, misspelled}
 use Rattle.sheet.specs.Questions.{disallowedFrom, excessFrom, additions, doublings, misplaced, offPlan, disallowed, excess, afterHeader, afterLoad}
 use Rattle.lines.specs.Coded.{codedHeader, openingOf}
-use Rattle.survey.specs.State.{found, earlier, misplacedFrom, offPlanFrom, disallowedIn, excessIn, leftAfter, Counted, Follows, Behind, placedIn, differsIn}
-use Rattle.survey.specs.Scan.{Reached, Scanned, Answered}
+use Rattle.survey.specs.Survey.State.{found, earlier, misplacedFrom, offPlanFrom, disallowedIn, excessIn, leftAfter, Counted, Follows, Behind, placedIn, differsIn}
+use Rattle.survey.specs.Survey.Scan.{Reached, Scanned, Answered}
 use Rattle.survey.specs.declared.state.State.{State}
 use Rattle.survey.specs.declared.phase.Phase.{Phase}
 use Rattle.survey.specs.declared.phase.Phase.the-variants.{Tables, Steps, Ended}

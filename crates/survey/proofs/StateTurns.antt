@@ -10,7 +10,7 @@ use Rattle.sheet.specs.Plan.{Point}
 use Rattle.sheet.specs.Line.{Line, table, load, double, add, end}
 use Rattle.sheet.specs.Questions.{isDouble, tableLines, disallowedFrom, excessFrom, additions, doublings, afterHeader, afterLoad}
 use Rattle.lines.specs.declared.point.Point as point-of
-use Rattle.survey.specs.State.{leftAfter}
+use Rattle.survey.specs.Survey.State.{leftAfter}
 use Rattle.survey.specs.declared.table.Tables as tables-of
 
 module _ (n : ℕ) (ls : List Line) (x : Point) where

@@ -15,7 +15,7 @@ use Rattle.sheet.specs.declared.Plan.the-variants.{J, I}
 use Rattle.sheet.specs.Plan.{Point, point, stored, odds, multiples, tables}
 use Rattle.sheet.specs.Questions.{sameNumber, samePoint, turn}
 use Rattle.lines.specs.Coded.{signed, codedPoint}
-use Rattle.survey.specs.State.{isNext, multipleAt, isOdd, jointTurn, windowTurn}
+use Rattle.survey.specs.Survey.State.{isNext, multipleAt, isOdd, jointTurn, windowTurn}
 use Rattle.lines.specs.declared.point.Signed.{Signed}
 use Rattle.lines.specs.declared.point.Point as point-of
 

@@ -15,7 +15,7 @@ use Rattle.sheet.specs.Plan.{Point}
 use Rattle.sheet.specs.Line as spec
 use Rattle.sheet.specs.Line.{load, double, add}
 use Rattle.sheet.specs.Questions.{unless, differs, turn, disallowedFrom, excessFrom}
-use Rattle.survey.specs.State.{earlier, isNext}
+use Rattle.survey.specs.Survey.State.{earlier, isNext}
 
 pub earlier-none : (o : Option ℕ) → earlier o none ≡ o
 earlier-none none = refl

@@ -1,4 +1,2 @@
 -- What the first pass answers, and what its state stands for.
-pub mod State
-pub mod Scan
 pub mod Survey

@@ -1,4 +1,6 @@
 -- What the first pass answers: the first of the questions 5 to 10 that a sheet misses, or that only question 11 is left.
+pub mod State
+pub mod Scan
 use mathlib.Core.Path.{_≡_}
 use mathlib.Core.List.{List, _∷_}
 use mathlib.Core.Option.{none}
@@ -9,7 +11,7 @@ use Rattle.sheet.specs.Line.{Header, Line, header}
 use Rattle.sheet.specs.Spelling.{lines}
 use Rattle.sheet.specs.Questions.{excess, wrong}
 use Rattle.sheet.specs.Answer.{Answer, accepted, refused, ask, heading, judged, answer}
-use Rattle.survey.specs.State.{leftAfter}
+use Rattle.survey.specs.Survey.State.{leftAfter}
 use Rattle.survey.specs.declared.questions.Survey.{Survey}
 use Rattle.survey.specs.declared.questions.Survey.the-variants.{Missed, Met}
 

@@ -1,6 +1,6 @@
 ghost use mathlib.Core.Path.{_≡_};
 ghost use Rattle.sheet.specs.Questions.{unless};
-ghost use Rattle.survey.specs.State.{found, earlier};
+ghost use Rattle.survey.specs.Survey.State.{found, earlier};
 
 // The line at which a question is missed, if it is.
 pub enum Fault {

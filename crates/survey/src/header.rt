@@ -1,7 +1,7 @@
 ghost use mathlib.Core.Path.{_≡_};
 ghost use Rattle.sheet.specs.Questions.{windowed};
 ghost use Rattle.lines.specs.Coded.{kindOf};
-ghost use Rattle.survey.specs.State.{planFor, isOnPlan};
+ghost use Rattle.survey.specs.Survey.State.{planFor, isOnPlan};
 use lines::Header;
 use sheet::Plan;
 
@@ -25,10 +25,7 @@ fn is_windowed(joint: bool, m1: u32, m2: u32) -> bool
         }
         return false;
     }
-    if Plan::is_window(m1) {
-        return Plan::is_window(m2);
-    }
-    false
+    digits::are_windows(m1, m2)
 }
 
 // Whether the windows are allowed and the slots are the plan's.

@@ -1,5 +1,5 @@
 ghost use mathlib.Core.Path.{_≡_};
-ghost use Rattle.survey.specs.State.{isBehindHeader, isBehindLoad, isPlaced};
+ghost use Rattle.survey.specs.Survey.State.{isBehindHeader, isBehindLoad, isPlaced};
 use lines::Line;
 
 // What may stand next: T lines or L or E; D and A lines or E; nothing.

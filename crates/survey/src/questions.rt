@@ -2,7 +2,7 @@ ghost use mathlib.Core.List.{List};
 ghost use Prim.Native.Nat.{_≤_};
 ghost use Rattle.digits.specs.Limits.{card};
 ghost use Rattle.sheet.specs.Line as meant;
-ghost use Rattle.survey.specs.Scan.{Answered, Faultless};
+ghost use Rattle.survey.specs.Survey.Scan.{Answered, Faultless};
 ghost use Rattle.survey.specs.Survey.{JudgedBy, Surveyed};
 use crate::fault::Fault;
 use crate::scan::Scan;

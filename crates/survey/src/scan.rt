@@ -3,8 +3,8 @@ ghost use Prim.Native.Nat.{_+_, _≤_};
 ghost use lib.ListN.{length, drop};
 ghost use Rattle.digits.specs.Limits.{card};
 ghost use Rattle.sheet.specs.Spelling.{lines};
-ghost use Rattle.survey.specs.State.{Counted};
-ghost use Rattle.survey.specs.Scan.{Scanned};
+ghost use Rattle.survey.specs.Survey.State.{Counted};
+ghost use Rattle.survey.specs.Survey.Scan.{Scanned};
 use crate::phase::Phase;
 use crate::state::State;
 

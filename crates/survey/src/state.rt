@@ -6,7 +6,7 @@ ghost use Rattle.digits.specs.Limits.{card};
 ghost use Rattle.sheet.specs.Line as meant;
 ghost use Rattle.sheet.specs.Plan as plans;
 ghost use Rattle.lines.specs.Coded.{codedPoint, coded};
-ghost use Rattle.survey.specs.State.{isPlaced, TablesClosed, Counted, Begins, Follows};
+ghost use Rattle.survey.specs.Survey.State.{isPlaced, TablesClosed, Counted, Begins, Follows};
 use crate::fault::Fault;
 use crate::phase::Phase;
 use crate::steps::Doubles;

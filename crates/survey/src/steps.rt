@@ -2,7 +2,7 @@ ghost use mathlib.Core.Path.{_≡_};
 ghost use Rattle.sheet.specs.Plan as plans;
 ghost use Rattle.sheet.specs.Questions.{turn};
 ghost use Rattle.lines.specs.Coded.{codedPoint};
-ghost use Rattle.survey.specs.State.{isOdd, jointTurn, windowTurn, StepTaken, DoubleTaken};
+ghost use Rattle.survey.specs.Survey.State.{isOdd, jointTurn, windowTurn, StepTaken, DoubleTaken};
 use crate::fault::Fault;
 use lines::Point;
 use sheet::Plan;

@@ -6,7 +6,7 @@ ghost use Rattle.sheet.specs.Plan as plans;
 ghost use Rattle.sheet.specs.Plan.{stored, multiples, tables};
 ghost use Rattle.sheet.specs.Questions.{sameNumber, samePoint, isDouble};
 ghost use Rattle.lines.specs.Coded.{signed, codedPoint};
-ghost use Rattle.survey.specs.State.{isNext, multipleAt, TableCounts, TableTaken, TablesClosed};
+ghost use Rattle.survey.specs.Survey.State.{isNext, multipleAt, TableCounts, TableTaken, TablesClosed};
 use crate::fault::Fault;
 use lines::Point;
 use lines::Signed;

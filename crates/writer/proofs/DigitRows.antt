@@ -6,33 +6,33 @@ use mathlib.Core.List.{List, [], _∷_, _++_, map}
 use Prim.Native.Nat.{ℕ, zero, suc, _+_, _-_, _*_, _≤_, _<_, max}
 use native.Mathlib.Omega.{arith}
 use lib.IntN.{ℤ, pos, natAbs}
-use lib.ListN as ListN
-use lib.ListN.{getD, replicate, List·getD-map}
+use lib.ListN.{length, getD, replicate, List·getD-map}
 use borrow.Author.Tests.{le-leb}
-use Rattle.digits.specs.Sized.{both, some-bytes, bounded}
+use Rattle.digits.specs.Scalar.Sized.{both, some-bytes, bounded}
 use Rattle.digits.specs.Byte.{byteOf}
-use Rattle.digits.specs.Bytes.{Bytes}
+use Rattle.digits.specs.Scalar.{Bytes}
 use Rattle.digits.specs.Column.{row, Small}
 use Rattle.digits.specs.Limits.{card}
 use Rattle.digits.specs.Row.{Digit, Over, isWindow}
 use Rattle.digits.specs.Scalar.{scalar, sized}
 use Rattle.digits.specs.Two.{Column, Two, P, Q, digit, two, blankColumn}
 use Rattle.forms.specs.Joint.{joint}
-use Rattle.forms.specs.JointValue.{joint-small}
+use Rattle.forms.specs.Joint.Value.{joint-small}
 use Rattle.forms.specs.Row as Row
-use Rattle.forms.specs.RowValue.{row-digits}
-use Rattle.recode.specs.Call.{roomy, length, filled, left, rowAnswer, rowBuffer, jointAnswer, jointBuffer}
+use Rattle.forms.specs.Row.Value.{row-digits}
+use Rattle.recode.specs.Call.{roomy, placesWritten, filled, left, rowAnswer, rowBuffer, jointAnswer, jointBuffer}
 use Rattle.recode.specs.declared.answer.Recoded.{Recoded}
 use Rattle.recode.specs.declared.answer.Recoded.the-variants.{Written}
 use Rattle.sheet.specs.declared.Plan.the-variants.{J, I}
 use Rattle.sheet.specs.Plan.{point}
-use Rattle.sheet.specs.Planned.{window-of}
+use Rattle.sheet.specs.Questions.Planned.{window-of}
 use Rattle.sheet.specs.Sound.{Window}
-use Rattle.written.specs.Columns.{paired-at, paired-length}
+use Rattle.written.specs.Written.Columns.{paired-at, paired-length}
 use Rattle.written.specs.Valid.{window-positive}
 use Rattle.written.specs.Written.{digits}
-use Rattle.writer.specs.Parts.{signed, Holds, Bounded}
-use Rattle.writer.proofs.Signs.{signed-byte}
+use Rattle.digits.specs.Byte.{signed}
+use Rattle.writer.specs.Body.Parts.{Holds, Bounded}
+use Rattle.digits.specs.Byte.Signed.{signed-byte}
 
 -- ── a digit in a filled buffer ──────────────────────────────────────────────────────────────
 
@@ -50,7 +50,7 @@ filled-at (d ∷ ds) n (suc i) = filled-at ds n i
 -- read back
 digit-at : (ds : List ℤ) (buffer : List ℕ) (i : ℕ) → natAbs (getD ds i (pos 0)) < 128 → signed (getD (filled ds buffer) i 0) ≡ getD ds i (pos 0)
 digit-at ds buffer i h =
-    ap signed (filled-at ds (ListN.length buffer - ListN.length ds) i) ∙ signed-byte (getD ds i (pos 0)) h
+    ap signed (filled-at ds (length buffer - length ds) i) ∙ signed-byte (getD ds i (pos 0)) h
 
 -- ── question 1 and the scalars ──────────────────────────────────────────────────────────────
 
@@ -76,18 +76,18 @@ row-at cs i P = List·getD-map (λ (c : Column). digit c P) cs i blankColumn
 row-at cs i Q = List·getD-map (λ (c : Column). digit c Q) cs i blankColumn
 
 module _ (k l : List ℕ) (sizes : (sized card k && sized card l) ≡ true) where
-  joint-answer : jointAnswer card k l 529 529 ≡ Written (ListN.length (joint (pos (scalar k)) (pos (scalar l))))
+  joint-answer : jointAnswer card k l 529 529 ≡ Written (length (joint (pos (scalar k)) (pos (scalar l))))
   unfolding jointAnswer
   joint-answer =
       let (a, b) = both (sized card k) (sized card l) sizes in
-      let m : max (ListN.length k) (ListN.length l) ≤ 66 = omega (arith, some-bytes card k a .1, some-bytes card l b .1) in
-      rw (a, b, room-enough (max (ListN.length k) (ListN.length l)) m)
+      let m : max (length k) (length l) ≤ 66 = omega (arith, some-bytes card k a .1, some-bytes card l b .1) in
+      rw (a, b, room-enough (max (length k) (length l)) m)
 
-  pub joint-places : {r : Recoded} {places : ℕ} → r ≡ jointAnswer card k l 529 529 → places ≡ length r → places ≡ ListN.length (digits J (scalar k) (scalar l))
+  pub joint-places : {r : Recoded} {places : ℕ} → r ≡ jointAnswer card k l 529 529 → places ≡ placesWritten r → places ≡ length (digits J (scalar k) (scalar l))
   unfolding digits
-  joint-places e f = f ∙ ap length (e ∙ joint-answer)
+  joint-places e f = f ∙ ap placesWritten (e ∙ joint-answer)
 
-module _ (k l p q : List ℕ) (sizes : (sized card k && sized card l) ≡ true) (p-long : ListN.length p ≡ 529) (q-long : ListN.length q ≡ 529) where
+module _ (k l p q : List ℕ) (sizes : (sized card k && sized card l) ≡ true) (p-long : length p ≡ 529) (q-long : length q ≡ 529) where
   buffer-row : (r : Two) (b : List ℕ) → jointBuffer card r k l p q ≡ b → (u : List ℕ) → jointBuffer card r k l p q ≡ filled (row two r (joint (pos (scalar k)) (pos (scalar l)))) u
       → (i : ℕ) → signed (getD b i 0) ≡ digit (getD (joint (pos (scalar k)) (pos (scalar l))) i blankColumn) r
   buffer-row r b e u f i =
@@ -125,14 +125,14 @@ over-at (d ∷ ds) (Over.more x o) zero = digit-small x
 over-at (d ∷ ds) (Over.more x o) (suc i) = over-at ds o i
 
 module _ (s : List ℕ) (m : ℕ) (size : sized card s ≡ true) (window : isWindow m ≡ true) where
-  row-answer : rowAnswer card s m 529 ≡ Written (ListN.length (Row.row m (pos (scalar s))))
+  row-answer : rowAnswer card s m 529 ≡ Written (length (Row.row m (pos (scalar s))))
   unfolding rowAnswer
-  row-answer = rw (size, window, room-enough (ListN.length s) (some-bytes card s size .1))
+  row-answer = rw (size, window, room-enough (length s) (some-bytes card s size .1))
 
-  row-places : {r : Recoded} {n : ℕ} → r ≡ rowAnswer card s m 529 → n ≡ length r → n ≡ ListN.length (Row.row m (pos (scalar s)))
-  row-places e f = f ∙ ap length (e ∙ row-answer)
+  row-places : {r : Recoded} {n : ℕ} → r ≡ rowAnswer card s m 529 → n ≡ placesWritten r → n ≡ length (Row.row m (pos (scalar s)))
+  row-places e f = f ∙ ap placesWritten (e ∙ row-answer)
 
-module _ (s : List ℕ) (m : ℕ) (b : List ℕ) (size : sized card s ≡ true) (window : isWindow m ≡ true) (long : ListN.length b ≡ 529) where
+module _ (s : List ℕ) (m : ℕ) (b : List ℕ) (size : sized card s ≡ true) (window : isWindow m ≡ true) (long : length b ≡ 529) where
   row-filled : rowBuffer card s m b ≡ filled (Row.row m (pos (scalar s))) b
   unfolding rowBuffer
   row-filled = ap (λ (a : Recoded). left a (Row.row m (pos (scalar s))) b) (ap (rowAnswer card s m) long ∙ row-answer s m size window)
@@ -145,8 +145,8 @@ module _ (s : List ℕ) (m : ℕ) (b : List ℕ) (size : sized card s ≡ true) 
       ∙ digit-at ds b i (omega (arith, over-at ds (row-digits m (pos (scalar s)) (window-positive w)) i, w .within))
 
 module _ (k l : List ℕ) (m1 m2 : ℕ) (sizes : (sized card k && sized card l) ≡ true) (windows : (isWindow m1 && isWindow m2) ≡ true) where
-  pub rows-places : {r s : Recoded} {a b n : ℕ} → r ≡ rowAnswer card k m1 529 → s ≡ rowAnswer card l m2 529 → a ≡ length r → b ≡ length s → n ≡ max a b
-      → n ≡ ListN.length (digits (I m1 m2) (scalar k) (scalar l))
+  pub rows-places : {r s : Recoded} {a b n : ℕ} → r ≡ rowAnswer card k m1 529 → s ≡ rowAnswer card l m2 529 → a ≡ placesWritten r → b ≡ placesWritten s → n ≡ max a b
+      → n ≡ length (digits (I m1 m2) (scalar k) (scalar l))
   unfolding digits
   rows-places e f g h x =
       let (u, v) = both (sized card k) (sized card l) sizes in
@@ -154,7 +154,7 @@ module _ (k l : List ℕ) (m1 m2 : ℕ) (sizes : (sized card k && sized card l) 
       x ∙ ap₂ max (row-places k m1 u w e g) (row-places l m2 v y f h)
       ∙ sym (paired-length (Row.row m1 (pos (scalar k))) (Row.row m2 (pos (scalar l))))
 
-module _ (k l p q : List ℕ) (m1 m2 : ℕ) (sizes : (sized card k && sized card l) ≡ true) (windows : (isWindow m1 && isWindow m2) ≡ true) (p-long : ListN.length p ≡ 529) (q-long : ListN.length q ≡ 529) where
+module _ (k l p q : List ℕ) (m1 m2 : ℕ) (sizes : (sized card k && sized card l) ≡ true) (windows : (isWindow m1 && isWindow m2) ≡ true) (p-long : length p ≡ 529) (q-long : length q ≡ 529) where
   -- the buffers hold the two rows
   pub rows-hold : {p′ q′ : List ℕ} → p′ ≡ rowBuffer card k m1 p → q′ ≡ rowBuffer card l m2 q → Holds p′ q′ (digits (I m1 m2) (scalar k) (scalar l))
   unfolding digits

@@ -10,12 +10,12 @@ use lib.Dec.{eqb}
 use lib.ListN.{length, take, drop, getD, length-append, take-append-drop}
 use lib.Seq.{take-suc, take-all, getD-drop}
 use borrow.Author.Tests.{eq-eqb, ne-eqb}
-use Rattle.digits.specs.Bytes.{Bytes}
+use Rattle.digits.specs.Scalar.{Bytes}
 use Rattle.digits.specs.Scalar.{little, scalar}
 use Rattle.sheet.specs.Numeral.{figure, numeral}
-use Rattle.sheet.specs.NumeralRead.{numeral-some}
-use Rattle.writer.specs.Parts.{Put, Room, figuresOf, byteFigures}
-use Rattle.sheet.specs.NumeralFigures.{numeral-low, numeral-high}
+use Rattle.sheet.specs.Numeral.Read.{numeral-some}
+use Rattle.writer.specs.Body.Parts.{Put, Room, figuresOf, byteFigures}
+use Rattle.sheet.specs.Numeral.Figures.{numeral-low, numeral-high}
 use Rattle.writer.proofs.Puts.{put-none, put-append, put-same, room-second}
 
 -- one more byte

@@ -7,9 +7,9 @@ use native.Mathlib.Omega.{arith}
 use Rattle.sheet.specs.declared.Plan.{Plan}
 use Rattle.sheet.specs.Digits.{weight}
 use Rattle.sheet.specs.Spelling.{lineFeed}
-use Rattle.sheet.specs.Rows.{weigh, weight-none, weight-more}
+use Rattle.sheet.specs.Digits.Accepted.{weigh, weight-none, weight-more}
 use Rattle.written.specs.Written.{placeSteps}
-use Rattle.writer.specs.Parts.{Put, Room, stepsBytes, columnAt, columnsBelow}
+use Rattle.writer.specs.Body.Parts.{Put, Room, stepsBytes, columnAt, columnsDown}
 use Rattle.writer.proofs.Puts.{Progress, begun, advance, finished, progress-same, progress-room, room-first}
 use Rattle.writer.proofs.StepBytes.{movesBytes, moves-none, moves-more}
 
@@ -50,16 +50,16 @@ module _ (plan : Plan) (p q : List ℕ) (top : ℕ) (out₀ : List ℕ) (at : �
 
 -- what the plan counts of the places below i
 abbrev pub Weighed : Plan → List ℕ → List ℕ → ℕ → ℕ → Type 0
-Weighed plan p q n i = (n ≡ weight plan (columnsBelow p q i)) × (n ≤ 2 * i)
+Weighed plan p q n i = (n ≡ weight plan (columnsDown p q i)) × (n ≤ 2 * i)
 
 module _ (plan : Plan) (p q : List ℕ) where
   pub weigh-start : Weighed plan p q 0 0
-  unfolding columnsBelow
+  unfolding columnsDown
   weigh-start = (sym (weight-none plan), omega arith)
 
   pub weigh-turn : (n i : ℕ) → Weighed plan p q n i → (w : ℕ) → (w ≡ weigh plan (columnAt p q i)) × (w ≤ 2) → Weighed plan p q (n + w) (i + 1)
-  unfolding columnsBelow
+  unfolding columnsDown
   weigh-turn n i s w e = (
-    omega (arith, s .0, e .0, weight-more plan (columnAt p q i) (columnsBelow p q i), ap (λ (j : ℕ). weight plan (columnsBelow p q j)) (add-one i)),
+    omega (arith, s .0, e .0, weight-more plan (columnAt p q i) (columnsDown p q i), ap (λ (j : ℕ). weight plan (columnsDown p q j)) (add-one i)),
     omega (arith, s .1, e .1),
   )

@@ -1,71 +1,78 @@
--- The answers and the buffers of the calls for a sheet, by the first question missed, and where all are met.
-use mathlib.Core.Path.{_≡_, sym, ap, _∙_}
+-- What the calls for a sheet return and leave, by the first question missed, and where all are met.
+use mathlib.Core.Path.{_≡_, refl, subst}
 use mathlib.Core.Bool.{true, false, _&&_}
 use mathlib.Core.List.{List, _++_}
 use Prim.Native.Nat.{ℕ, _≤_, _<_}
-use lib.ListN as ListN
-use lib.ListN.{drop}
+use lib.ListN.{length, drop}
 use borrow.Author.Tests.{le-leb, lt-leb}
-use Rattle.digits.specs.Limits.{Limits}
+use Rattle.digits.specs.Limits.{card}
 use Rattle.digits.specs.Row.{isWindow}
-use Rattle.digits.specs.Scalar.{scalar, sized}
+use Rattle.digits.specs.Scalar.{Bytes, scalar, sized}
 use Rattle.sheet.specs.declared.Plan.the-variants.{J, I}
 use Rattle.written.specs.Written.{written}
 use Rattle.writer.specs.declared.answer.Sheet.{Sheet}
 use Rattle.writer.specs.declared.answer.Sheet.the-variants.{BadScalar, BadWindow, NoRoom}
-use Rattle.writer.specs.Call.{wrote, left, jAnswer, jBuffer, iAnswer, iBuffer}
+use Rattle.writer.specs.Call.{number, wrote, left, SheetPromised, jQuestion, jAnswer, jBuffer, iQuestion, iAnswer, iBuffer}
+use Rattle.writer.specs.Call.Kept.{j-promised, i-promised, j-question, i-question}
 
-module _ (limits : Limits) (k l buffer : List ℕ) where
-  -- what the call for plan J returns and leaves, where its answer is a
+module _ (k l buffer : List ℕ) where
+  -- the contract of the call for plan J, where its answer is a and it leaves `out`
   abbrev pub ReturnedJ : Sheet → List ℕ → Type 0
-  ReturnedJ a out = (a ≡ jAnswer limits k l (ListN.length buffer)) × (out ≡ jBuffer limits k l buffer)
+  ReturnedJ a out =
+      (a ≡ jAnswer card k l (length buffer))
+      × ((out ≡ jBuffer card k l buffer)
+      × (SheetPromised J (scalar k) (scalar l) a out × (number a ≡ jQuestion card k l (length buffer))))
 
-  returned-j : (a : Sheet) → jAnswer limits k l (ListN.length buffer) ≡ a → ReturnedJ a (left a (written J (scalar k) (scalar l)) buffer)
+  -- and of the call for plan I
+  abbrev pub ReturnedI : ℕ → ℕ → Sheet → List ℕ → Type 0
+  ReturnedI m1 m2 a out =
+      (a ≡ iAnswer card k l m1 m2 (length buffer))
+      × ((out ≡ iBuffer card k l m1 m2 buffer)
+      × (SheetPromised (I m1 m2) (scalar k) (scalar l) a out × (number a ≡ iQuestion card k l m1 m2 (length buffer))))
+
+module _ (k l buffer : List ℕ) (k-bytes : Bytes k) (l-bytes : Bytes l) where
+  returned-j : (a : Sheet) → jAnswer card k l (length buffer) ≡ a → ReturnedJ k l buffer a (left a (written J (scalar k) (scalar l)) buffer)
   unfolding jBuffer
-  returned-j a e = (sym e, sym (ap (λ (x : Sheet). left x (written J (scalar k) (scalar l)) buffer) e))
+  returned-j a e =
+      subst (λ (x : Sheet). ReturnedJ k l buffer x (left x (written J (scalar k) (scalar l)) buffer)) e
+      (refl, (refl, (j-promised k l buffer k-bytes l-bytes, j-question card k l (length buffer))))
 
-  pub j-scalar : (sized limits k && sized limits l) ≡ false → ReturnedJ BadScalar buffer
+  pub j-scalar : (sized card k && sized card l) ≡ false → ReturnedJ k l buffer BadScalar buffer
   unfolding jAnswer
   j-scalar e = returned-j BadScalar (rw e)
 
-  module _ (sizes : (sized limits k && sized limits l) ≡ true) where
-    pub j-room : ListN.length buffer < limits .sheet → ReturnedJ NoRoom buffer
+  module _ (sizes : (sized card k && sized card l) ≡ true) where
+    pub j-room : length buffer < card .sheet → ReturnedJ k l buffer NoRoom buffer
     unfolding jAnswer
-    j-room h = returned-j NoRoom (rw (sizes, lt-leb (limits .sheet) (ListN.length buffer) h))
+    j-room h = returned-j NoRoom (rw (sizes, lt-leb (card .sheet) (length buffer) h))
 
-    pub j-written : {a : Sheet} {out : List ℕ} → limits .sheet ≤ ListN.length buffer → a ≡ wrote J k l
-        → out ≡ written J (scalar k) (scalar l) ++ drop (ListN.length (written J (scalar k) (scalar l))) buffer → ReturnedJ a out
+    pub j-written : {a : Sheet} {out : List ℕ} → card .sheet ≤ length buffer → a ≡ wrote J k l
+        → out ≡ written J (scalar k) (scalar l) ++ drop (length (written J (scalar k) (scalar l))) buffer → ReturnedJ k l buffer a out
     unfolding jAnswer
-    j-written h e f =
-        let r = returned-j (wrote J k l) (rw (sizes, le-leb (limits .sheet) (ListN.length buffer) h)) in
-        (e ∙ r .0, f ∙ r .1)
+    j-written h e f = rw (e, f) (returned-j (wrote J k l) (rw (sizes, le-leb (card .sheet) (length buffer) h)))
 
   module _ (m1 m2 : ℕ) where
-    -- and the call for plan I
-    abbrev pub ReturnedI : Sheet → List ℕ → Type 0
-    ReturnedI a out = (a ≡ iAnswer limits k l m1 m2 (ListN.length buffer)) × (out ≡ iBuffer limits k l m1 m2 buffer)
-
-    returned-i : (a : Sheet) → iAnswer limits k l m1 m2 (ListN.length buffer) ≡ a → ReturnedI a (left a (written (I m1 m2) (scalar k) (scalar l)) buffer)
+    returned-i : (a : Sheet) → iAnswer card k l m1 m2 (length buffer) ≡ a → ReturnedI k l buffer m1 m2 a (left a (written (I m1 m2) (scalar k) (scalar l)) buffer)
     unfolding iBuffer
-    returned-i a e = (sym e, sym (ap (λ (x : Sheet). left x (written (I m1 m2) (scalar k) (scalar l)) buffer) e))
+    returned-i a e =
+        subst (λ (x : Sheet). ReturnedI k l buffer m1 m2 x (left x (written (I m1 m2) (scalar k) (scalar l)) buffer)) e
+        (refl, (refl, (i-promised k l buffer k-bytes l-bytes m1 m2, i-question card k l m1 m2 (length buffer))))
 
-    pub i-scalar : (sized limits k && sized limits l) ≡ false → ReturnedI BadScalar buffer
+    pub i-scalar : (sized card k && sized card l) ≡ false → ReturnedI k l buffer m1 m2 BadScalar buffer
     unfolding iAnswer
     i-scalar e = returned-i BadScalar (rw e)
 
-    module _ (sizes : (sized limits k && sized limits l) ≡ true) where
-      pub i-window : (isWindow m1 && isWindow m2) ≡ false → ReturnedI BadWindow buffer
+    module _ (sizes : (sized card k && sized card l) ≡ true) where
+      pub i-window : (isWindow m1 && isWindow m2) ≡ false → ReturnedI k l buffer m1 m2 BadWindow buffer
       unfolding iAnswer
       i-window e = returned-i BadWindow (rw (sizes, e))
 
       module _ (windows : (isWindow m1 && isWindow m2) ≡ true) where
-        pub i-room : ListN.length buffer < limits .sheet → ReturnedI NoRoom buffer
+        pub i-room : length buffer < card .sheet → ReturnedI k l buffer m1 m2 NoRoom buffer
         unfolding iAnswer
-        i-room h = returned-i NoRoom (rw (sizes, windows, lt-leb (limits .sheet) (ListN.length buffer) h))
+        i-room h = returned-i NoRoom (rw (sizes, windows, lt-leb (card .sheet) (length buffer) h))
 
-        pub i-written : {a : Sheet} {out : List ℕ} → limits .sheet ≤ ListN.length buffer → a ≡ wrote (I m1 m2) k l
-            → out ≡ written (I m1 m2) (scalar k) (scalar l) ++ drop (ListN.length (written (I m1 m2) (scalar k) (scalar l))) buffer → ReturnedI a out
+        pub i-written : {a : Sheet} {out : List ℕ} → card .sheet ≤ length buffer → a ≡ wrote (I m1 m2) k l
+            → out ≡ written (I m1 m2) (scalar k) (scalar l) ++ drop (length (written (I m1 m2) (scalar k) (scalar l))) buffer → ReturnedI k l buffer m1 m2 a out
         unfolding iAnswer
-        i-written h e f =
-            let r = returned-i (wrote (I m1 m2) k l) (rw (sizes, windows, le-leb (limits .sheet) (ListN.length buffer) h)) in
-            (e ∙ r .0, f ∙ r .1)
+        i-written h e f = rw (e, f) (returned-i (wrote (I m1 m2) k l) (rw (sizes, windows, le-leb (card .sheet) (length buffer) h)))

@@ -20,12 +20,12 @@ use Rattle.sheet.specs.Plan.{Point, slots, tables, tableAdditions, tableDoublin
 use Rattle.sheet.specs.Questions.{doublings}
 use Rattle.sheet.specs.Sound.{Steps, stepLines, sheetLines}
 use Rattle.sheet.specs.Spelling.{comma, lineFeed, kind, join, spell}
-use Rattle.written.specs.Accepted.{written-fits, written-cost, written-places, written-header, written-doublings}
-use Rattle.written.specs.Lengths.{spell-append}
-use Rattle.written.specs.Columns.{digits-top}
+use Rattle.written.specs.Promise.{written-fits, written-cost, written-places, written-header, written-doublings}
+use Rattle.written.specs.Written.Lengths.{spell-append}
+use Rattle.written.specs.Written.Columns.{digits-top}
 use Rattle.written.specs.Written.{digits, kindOf, first, second, heading, stepsDown, stepsOf, writtenLines, writtenAdditions, written}
-use Rattle.writer.specs.Parts.{columnAt, columnsBelow, lettersOf, decimalsOf, scalarsOf, headerBytes, Holds, Bounded, Ready}
-use Rattle.sheet.specs.Rows.{weight-none, weight-more}
+use Rattle.writer.specs.Body.Parts.{columnAt, columnsDown, lettersOf, decimalsOf, scalarsOf, headerBytes, Holds, Bounded, Ready}
+use Rattle.sheet.specs.Digits.Accepted.{weight-none, weight-more}
 
 -- ── the header ──────────────────────────────────────────────────────────────────────────────
 
@@ -70,15 +70,15 @@ header-parts plan x s a d k l w e f g =
 -- ── the digits that the rows hold ───────────────────────────────────────────────────────────
 
 module _ (p q : List ℕ) (cs : List Column) (held : Holds p q cs) where
-  below : (n : ℕ) → n ≤ length cs → columnsBelow p q n ≡ reverse (take n cs)
-  unfolding columnsBelow
+  below : (n : ℕ) → n ≤ length cs → columnsDown p q n ≡ reverse (take n cs)
+  unfolding columnsDown
   below zero h = refl
   below (suc n) h =
       ap₂ (λ (c : Column) (l : List Column). c ∷ l) (held .columns n) (below n (omega arith))
       ∙ sym (ap reverse (take-suc cs n blankColumn h) ∙ reverse-append (take n cs) (getD cs n blankColumn ∷ []))
 
   -- from the highest place down they are the columns
-  pub columns-below : columnsBelow p q (length cs) ≡ reverse cs
+  pub columns-below : columnsDown p q (length cs) ≡ reverse cs
   columns-below = below (length cs) (omega arith) ∙ ap reverse (take-length cs)
 
   -- the top column
@@ -112,11 +112,11 @@ sheet-bytes h ts st =
 abbrev pub partsOf : Plan → ℕ → ℕ → ℕ → ℕ → List ℕ → List ℕ → ℕ → List ℕ
 partsOf plan a d k l p q places =
     headerBytes (heading plan a d k l)
-    ++ (spell (map table (tables plan)) ++ (spell (stepLines (stepsDown plan (columnsBelow p q places))) ++ (69 ∷ lineFeed ∷ [])))
+    ++ (spell (map table (tables plan)) ++ (spell (stepLines (stepsDown plan (columnsDown p q places))) ++ (69 ∷ lineFeed ∷ [])))
 
 module _ {plan : Plan} {k l : ℕ} {p q : List ℕ} {places : ℕ} {out : List ℕ} (g : Ready plan k l p q places out) where
-  all-below : columnsBelow p q places ≡ reverse (digits plan k l)
-  all-below = ap (columnsBelow p q) (g .long) ∙ columns-below p q (digits plan k l) (g .held)
+  all-below : columnsDown p q places ≡ reverse (digits plan k l)
+  all-below = ap (columnsDown p q) (g .long) ∙ columns-below p q (digits plan k l) (g .held)
 
   pub few-places : places ≤ 529
   unfolding Bounded
@@ -126,7 +126,7 @@ module _ {plan : Plan} {k l : ℕ} {p q : List ℕ} {places : ℕ} {out : List �
   top-full top e = top-held p q (digits plan k l) (g .held) (digits-top k l (g .valid)) top (sym (g .long) ∙ e)
 
   -- what is counted are the additions and the doublings of the sheet
-  pub additions-are : (t w r : ℕ) → t ≡ tableAdditions plan → w ≡ weight plan (columnsBelow p q places) → r ≡ w - 1 → t + r ≡ writtenAdditions plan k l
+  pub additions-are : (t w r : ℕ) → t ≡ tableAdditions plan → w ≡ weight plan (columnsDown p q places) → r ≡ w - 1 → t + r ≡ writtenAdditions plan k l
   unfolding Bounded
   additions-are t w r e f h =
       ap₂ (λ (x y : ℕ). x + y) e (h ∙ ap (λ (n : ℕ). n - 1) (f ∙ ap (weight plan) all-below ∙ weight-reverse plan (digits plan k l)))

@@ -1,20 +1,12 @@
--- The digit of a byte in two's complement: as it is spelled, and of the byte that a digit has. Assumes nothing.
+-- The digit of a byte in two's complement, as it is spelled. Assumes nothing.
 use mathlib.Core.Path.{_≡_, ap, _∙_}
 use mathlib.Core.List.{_∷_}
-use Prim.Native.Nat.{ℕ, suc, _-_, _%_, _≤_, _<_}
+use Prim.Native.Nat.{ℕ, suc, _-_, _≤_, _<_}
 use native.Mathlib.Omega.{arith}
-use lib.IntN.{ℤ, pos, negsuc, natAbs}
-use borrow.Author.Tests.{lt-ltb, le-ltb}
-use Rattle.digits.specs.Byte.{byteOf}
+use Rattle.digits.specs.Byte.Signed.{signed-plain, signed-minus}
 use Rattle.sheet.specs.Numeral.{numeral}
 use Rattle.sheet.specs.Spelling.{digit}
-use Rattle.writer.specs.Parts.{signed}
-
-pub signed-plain : (b : ℕ) → b < 128 → signed b ≡ pos b
-signed-plain b h = rw (lt-ltb b 128 h)
-
-pub signed-minus : (b : ℕ) → 128 ≤ b → signed b ≡ negsuc (255 - b)
-signed-minus b h = rw (le-ltb b 128 h)
+use Rattle.digits.specs.Byte.{signed}
 
 pub digit-plain : (b : ℕ) → b < 128 → digit (signed b) ≡ numeral 10 b
 digit-plain b h = ap digit (signed-plain b h)
@@ -23,14 +15,3 @@ pub digit-minus : (b : ℕ) → 128 ≤ b → b < 256 → digit (signed b) ≡ 4
 digit-minus b h l =
     let e : suc (255 - b) ≡ 256 - b = omega arith in
     ap digit (signed-minus b h) ∙ ap (λ (n : ℕ). 45 ∷ numeral 10 n) e
-
--- the byte of a small digit is read back as the digit
-pub signed-byte : (z : ℤ) → natAbs z < 128 → signed (byteOf z) ≡ z
-unfolding byteOf
-signed-byte (pos n) h =
-    let e : n % 256 ≡ n = omega arith in
-    ap signed e ∙ signed-plain n h
-signed-byte (negsuc n) h =
-    let e : n % 256 ≡ n = omega arith in
-    let f : 255 - (256 - suc n) ≡ n = omega arith in
-    ap (λ (m : ℕ). signed (256 - suc m)) e ∙ signed-minus (256 - suc n) (omega arith) ∙ ap negsuc f

@@ -9,21 +9,20 @@ use lib.Dec.{T, ltb, eqb}
 use lib.IntN.{ℤ, pos, negsuc}
 use lib.ListN.{length, length-append}
 use borrow.Author.Tests.{ne-eqb}
-use Rattle.digits.specs.Column as Columns
-use Rattle.digits.specs.Row as Rows
 use Rattle.digits.specs.Row.{count}
 use Rattle.digits.specs.Column.{counted}
 use Rattle.digits.specs.Two.{Column, isZero, blank}
 use Rattle.sheet.specs.declared.Plan.{Plan}
 use Rattle.sheet.specs.declared.Plan.the-variants.{J, I}
-use Rattle.sheet.specs.Rows.{weigh}
+use Rattle.sheet.specs.Digits.Accepted.{weigh}
 use Rattle.sheet.specs.Line.{Line, table, load, add}
 use Rattle.sheet.specs.Plan.{Point, point}
 use Rattle.sheet.specs.Sound.{Moves, moveLines, stepLines}
 use Rattle.sheet.specs.Spelling.{comma, lineFeed, digit, join, spell}
 use Rattle.written.specs.Written.{unlessZero, placeSteps, addAll, movesOf, stepsDown}
 use Rattle.written.specs.Written as Written
-use Rattle.writer.specs.Parts.{signed, pointLine, stepsBytes, columnAt, columnsBelow}
+use Rattle.digits.specs.Byte.{signed}
+use Rattle.writer.specs.Body.Parts.{pointLine, stepsBytes, columnAt, columnsDown}
 
 -- ── whether a digit is 0 ────────────────────────────────────────────────────────────────────
 
@@ -127,17 +126,17 @@ added-bytes (t ∷ ts) ms =
 
 -- the bytes of the places below i
 abbrev pub movesBytes : Plan → List ℕ → List ℕ → ℕ → List ℕ
-movesBytes plan p q i = spell (moveLines (movesOf plan (columnsBelow p q i)))
+movesBytes plan p q i = spell (moveLines (movesOf plan (columnsDown p q i)))
 
 pub moves-none : (plan : Plan) (p q : List ℕ) → movesBytes plan p q 0 ≡ []
-unfolding moveLines movesOf columnsBelow spell
+unfolding moveLines movesOf columnsDown spell
 moves-none plan p q = refl
 
 pub moves-more : (plan : Plan) (p q : List ℕ) (i : ℕ)
     → movesBytes plan p q (suc i) ≡ (68 ∷ lineFeed ∷ []) ++ (stepsBytes 65 (placeSteps plan (columnAt p q i)) ++ movesBytes plan p q i)
-unfolding moveLines movesOf columnsBelow spell join
+unfolding moveLines movesOf columnsDown spell join
 moves-more plan p q i =
-    ap (λ (l : List ℕ). 68 ∷ lineFeed ∷ l) (added-bytes (placeSteps plan (columnAt p q i)) (movesOf plan (columnsBelow p q i)))
+    ap (λ (l : List ℕ). 68 ∷ lineFeed ∷ l) (added-bytes (placeSteps plan (columnAt p q i)) (movesOf plan (columnsDown p q i)))
 
 -- a column that is not zero has a step
 length-unless : (t : Point) → length (unlessZero t) ≡ counted (blank t)
@@ -175,16 +174,16 @@ loaded-bytes ts t us ms e =
     ∙ sym (ap (λ (l : List Point). stepsBytes 76 l ++ spell (moveLines ms)) e)
 
 pub all-steps : (plan : Plan) (p q : List ℕ) (top : ℕ) → T (not (blank (columnAt p q top)))
-    → spell (stepLines (stepsDown plan (columnsBelow p q (suc top)))) ≡ stepsBytes 76 (placeSteps plan (columnAt p q top)) ++ movesBytes plan p q top
-unfolding columnsBelow
+    → spell (stepLines (stepsDown plan (columnsDown p q (suc top)))) ≡ stepsBytes 76 (placeSteps plan (columnAt p q top)) ++ movesBytes plan p q top
+unfolding columnsDown
 all-steps plan p q top h =
     let (t, ts, e) = a-first (placeSteps plan (columnAt p q top)) (some-steps plan (columnAt p q top) h) in
-    loaded-bytes (placeSteps plan (columnAt p q top)) t ts (movesOf plan (columnsBelow p q top)) e
+    loaded-bytes (placeSteps plan (columnAt p q top)) t ts (movesOf plan (columnsDown p q top)) e
 
 -- without a place there is no step
-pub no-places : (plan : Plan) (p q : List ℕ) (places : ℕ) → places ≡ 0 → spell (stepLines (stepsDown plan (columnsBelow p q places))) ≡ []
-unfolding columnsBelow spell
-no-places plan p q places e = ap (λ (n : ℕ). spell (stepLines (stepsDown plan (columnsBelow p q n)))) e
+pub no-places : (plan : Plan) (p q : List ℕ) (places : ℕ) → places ≡ 0 → spell (stepLines (stepsDown plan (columnsDown p q places))) ≡ []
+unfolding columnsDown spell
+no-places plan p q places e = ap (λ (n : ℕ). spell (stepLines (stepsDown plan (columnsDown p q n)))) e
 
 -- ── what a plan counts ──────────────────────────────────────────────────────────────────────
 

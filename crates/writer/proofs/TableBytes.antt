@@ -10,10 +10,11 @@ use Rattle.sheet.specs.Line.{table}
 use Rattle.sheet.specs.Plan.{point, stored, odds, multiples, tables}
 use Rattle.sheet.specs.Sound.{Window}
 use Rattle.sheet.specs.Spelling.{spell}
-use Rattle.written.specs.Lengths.{spell-append}
-use Rattle.writer.specs.Parts.{Put, Room, signed, pointLine, alone, oddLines, windowBytes}
+use Rattle.written.specs.Written.Lengths.{spell-append}
+use Rattle.digits.specs.Byte.{signed}
+use Rattle.writer.specs.Body.Parts.{Put, Room, pointLine, alone, oddLines, windowBytes}
 use Rattle.writer.proofs.Puts.{Progress, begun, advance, finished, progress-same, progress-room, room-first}
-use Rattle.writer.proofs.Signs.{signed-plain}
+use Rattle.digits.specs.Byte.Signed.{signed-plain}
 use Rattle.writer.proofs.StepBytes.{spell-table}
 
 pub alone-q : (q : Bool) (n : ℕ) → n < 128 → q ≡ true → pointLine 84 (alone q n) ≡ pointLine 84 (point (signed 0) (signed n))

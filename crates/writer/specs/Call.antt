@@ -1,15 +1,21 @@
--- What the calls for the sheet of a named plan answer and leave in the buffer they are lent, for all input.
+-- What the calls for the sheet of a named plan answer and leave in the buffer they are lent, for all input; and what they promise
+-- of the sheet.
+pub mod Kept
+pub mod Met
+use mathlib.Core.Path.{_≡_}
 use mathlib.Core.Bool.{Bool, _&&_, cond}
-use mathlib.Core.List.{List, _++_}
+use mathlib.Core.List.{List, [], _∷_, _++_}
 use Prim.Native.Nat.{ℕ}
 use lib.Dec.{leb}
-use lib.ListN as ListN
-use lib.ListN.{drop}
-use Rattle.digits.specs.Limits.{Limits}
+use lib.ListN.{length, take, drop}
+use Rattle.digits.specs.Limits.{Limits, card}
+use Rattle.digits.specs.Missed.{missed}
 use Rattle.digits.specs.Row.{isWindow}
 use Rattle.digits.specs.Scalar.{scalar, sized}
 use Rattle.sheet.specs.declared.Plan.{Plan}
 use Rattle.sheet.specs.declared.Plan.the-variants.{J, I}
+use Rattle.sheet.specs.Answer.{Accepted, sheetSlots, sheetAdditions}
+use Rattle.sheet.specs.Plan.{slots}
 use Rattle.written.specs.Written.{written, writtenAdditions}
 use Rattle.writer.specs.declared.answer.Sheet.{Sheet}
 use Rattle.writer.specs.declared.answer.Sheet.the-variants.{BadScalar, BadWindow, NoRoom, BadLimit, Written}
@@ -22,15 +28,15 @@ number NoRoom = 3
 number BadLimit = 4
 number (Written n a) = 0
 
--- the length of the sheet
-abbrev pub length : Sheet → ℕ
-length BadScalar = 0
-length BadWindow = 0
-length NoRoom = 0
-length BadLimit = 0
-length (Written n a) = n
+-- how many bytes were written
+abbrev pub bytesWritten : Sheet → ℕ
+bytesWritten BadScalar = 0
+bytesWritten BadWindow = 0
+bytesWritten NoRoom = 0
+bytesWritten BadLimit = 0
+bytesWritten (Written n a) = n
 
--- its additions
+-- the sheet's additions
 abbrev pub additions : Sheet → ℕ
 additions BadScalar = 0
 additions BadWindow = 0
@@ -44,18 +50,7 @@ roomy limits room = leb (limits .sheet) room
 
 -- the answer of a call that has written the sheet of a plan
 abbrev pub wrote : Plan → List ℕ → List ℕ → Sheet
-wrote p k l = Written (ListN.length (written p (scalar k) (scalar l))) (writtenAdditions p (scalar k) (scalar l))
-
--- plan J: question 1 of both scalars, question 3, or the sheet
-unfoldable pub jAnswer : Limits → List ℕ → List ℕ → ℕ → Sheet
-jAnswer limits k l room = cond (sized limits k && sized limits l) (cond (roomy limits room) (wrote J k l) NoRoom) BadScalar
-
--- plan I: question 1 of both scalars, question 2 of both windows, question 3, or the sheet
-unfoldable pub iAnswer : Limits → List ℕ → List ℕ → ℕ → ℕ → ℕ → Sheet
-iAnswer limits k l m1 m2 room =
-    cond (sized limits k && sized limits l)
-    (cond (isWindow m1 && isWindow m2) (cond (roomy limits room) (wrote (I m1 m2) k l) NoRoom) BadWindow)
-    BadScalar
+wrote p k l = Written (length (written p (scalar k) (scalar l))) (writtenAdditions p (scalar k) (scalar l))
 
 -- the buffer after a call: the sheet, and behind it what was lent; as lent where a question was missed
 abbrev pub left : Sheet → List ℕ → List ℕ → List ℕ
@@ -63,11 +58,49 @@ left BadScalar s buffer = buffer
 left BadWindow s buffer = buffer
 left NoRoom s buffer = buffer
 left BadLimit s buffer = buffer
-left (Written n a) s buffer = s ++ drop (ListN.length s) buffer
+left (Written n a) s buffer = s ++ drop (length s) buffer
+
+-- the sheet s of a plan is accepted for k and l, and a are its additions
+pub record Promised (p : Plan) (k l a : ℕ) (s : List ℕ) : Type 0 where
+  pub accepted : Accepted card s k l
+  pub additions-are : sheetAdditions card s ≡ a
+  pub slots-are : sheetSlots card s ≡ slots p
+
+-- where n bytes were written, they are such a sheet
+abbrev pub SheetPromised : Plan → ℕ → ℕ → Sheet → List ℕ → Type 0
+SheetPromised p k l BadScalar buffer = Unit {0}
+SheetPromised p k l BadWindow buffer = Unit {0}
+SheetPromised p k l NoRoom buffer = Unit {0}
+SheetPromised p k l BadLimit buffer = Unit {0}
+SheetPromised p k l (Written n a) buffer = Promised p k l a (take n buffer)
+
+-- ── plan J ──────────────────────────────────────────────────────────────────────────────────
+
+-- the questions: 1 of both scalars; 3
+abbrev pub jQuestion : Limits → List ℕ → List ℕ → ℕ → ℕ
+jQuestion limits k l room = missed ((1, sized limits k) ∷ (1, sized limits l) ∷ (3, roomy limits room) ∷ [])
+
+-- the answer: the first question missed, or the sheet
+unfoldable pub jAnswer : Limits → List ℕ → List ℕ → ℕ → Sheet
+jAnswer limits k l room = cond (sized limits k && sized limits l) (cond (roomy limits room) (wrote J k l) NoRoom) BadScalar
 
 unfoldable pub jBuffer : Limits → List ℕ → List ℕ → List ℕ → List ℕ
-jBuffer limits k l buffer = left (jAnswer limits k l (ListN.length buffer)) (written J (scalar k) (scalar l)) buffer
+jBuffer limits k l buffer = left (jAnswer limits k l (length buffer)) (written J (scalar k) (scalar l)) buffer
+
+-- ── plan I ──────────────────────────────────────────────────────────────────────────────────
+
+-- the questions: 1 of both scalars; 2 of both windows; 3
+abbrev pub iQuestion : Limits → List ℕ → List ℕ → ℕ → ℕ → ℕ → ℕ
+iQuestion limits k l m1 m2 room =
+    missed ((1, sized limits k) ∷ (1, sized limits l) ∷ (2, isWindow m1) ∷ (2, isWindow m2) ∷ (3, roomy limits room) ∷ [])
+
+-- the answer: the first question missed, or the sheet
+unfoldable pub iAnswer : Limits → List ℕ → List ℕ → ℕ → ℕ → ℕ → Sheet
+iAnswer limits k l m1 m2 room =
+    cond (sized limits k && sized limits l)
+    (cond (isWindow m1 && isWindow m2) (cond (roomy limits room) (wrote (I m1 m2) k l) NoRoom) BadWindow)
+    BadScalar
 
 unfoldable pub iBuffer : Limits → List ℕ → List ℕ → ℕ → ℕ → List ℕ → List ℕ
 iBuffer limits k l m1 m2 buffer =
-    left (iAnswer limits k l m1 m2 (ListN.length buffer)) (written (I m1 m2) (scalar k) (scalar l)) buffer
+    left (iAnswer limits k l m1 m2 (length buffer)) (written (I m1 m2) (scalar k) (scalar l)) buffer

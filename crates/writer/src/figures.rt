@@ -1,7 +1,7 @@
 ghost use Prim.Native.Nat.{_<_};
 ghost use Rattle.digits.specs.Scalar;
 ghost use Rattle.sheet.specs.Numeral.{numeral};
-ghost use Rattle.writer.specs.Parts.{Put, Room, byteFigures};
+ghost use Rattle.writer.specs.Body.Parts.{Put, Room, byteFigures};
 
 // The figures of a byte: without leading zeros where it is the first that has any.
 fn put_figures(out: &mut [u8], at: usize, first: bool, byte: u32) -> usize

@@ -3,7 +3,7 @@ ghost use mathlib.Core.List.{_∷_, []};
 ghost use Rattle.digits.specs.Scalar;
 ghost use Rattle.sheet.specs.Spelling;
 ghost use Rattle.written.specs.Written.{kindOf, heading};
-ghost use Rattle.writer.specs.Parts.{Put, Room, field, lettersOf, decimalsOf, scalarsOf, headerBytes};
+ghost use Rattle.writer.specs.Body.Parts.{Put, Room, field, lettersOf, decimalsOf, scalarsOf, headerBytes};
 use sheet::Plan;
 
 // The letter of a plan.

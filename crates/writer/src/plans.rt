@@ -6,10 +6,10 @@ ghost use lib.ListN.{length, drop};
 ghost use Rattle.digits.specs.Limits.{card};
 ghost use Rattle.digits.specs.Row.{isWindow};
 ghost use Rattle.digits.specs.Scalar.{scalar, sized};
-ghost use Rattle.recode.specs.Call;
+ghost use Rattle.recode.specs.Call.{placesWritten};
 ghost use Rattle.sheet.specs.declared.Plan.the-variants.{J, I};
 ghost use Rattle.written.specs.Written.{written};
-ghost use Rattle.writer.specs.Call.{wrote, jAnswer, jBuffer, iAnswer, iBuffer};
+ghost use Rattle.writer.specs.Call.{number, wrote, SheetPromised, jQuestion, jAnswer, jBuffer, iQuestion, iAnswer, iBuffer};
 use crate::answer::Sheet;
 use crate::write::PLACES;
 use recode::Recoded;
@@ -22,6 +22,8 @@ const SHEET: usize = 16384;
 pub fn plan_j(k: &[u8], l: &[u8], sheet: &mut [u8]) -> Sheet
     ensures answer { λ r. ⌜ r ≡ jAnswer card (now (k .entry)) (now (l .entry)) (length (now (sheet .entry))) ⌝ }
     ensures buffer { λ _. ⌜ now (sheet .exit) ≡ jBuffer card (now (k .entry)) (now (l .entry)) (now (sheet .entry)) ⌝ }
+    ensures promised { λ r. ⌜ SheetPromised J (scalar (now (k .entry))) (scalar (now (l .entry))) r (now (sheet .exit)) ⌝ }
+    ensures question { λ r. ⌜ number r ≡ jQuestion card (now (k .entry)) (now (l .entry)) (length (now (sheet .entry))) ⌝ }
 {
     if digits::are_scalars(k, l) {
         if sheet.len() < SHEET {
@@ -36,9 +38,11 @@ pub fn plan_j(k: &[u8], l: &[u8], sheet: &mut [u8]) -> Sheet
 pub fn plan_i(k: &[u8], l: &[u8], m1: u32, m2: u32, sheet: &mut [u8]) -> Sheet
     ensures answer { λ r. ⌜ r ≡ iAnswer card (now (k .entry)) (now (l .entry)) m1 m2 (length (now (sheet .entry))) ⌝ }
     ensures buffer { λ _. ⌜ now (sheet .exit) ≡ iBuffer card (now (k .entry)) (now (l .entry)) m1 m2 (now (sheet .entry)) ⌝ }
+    ensures promised { λ r. ⌜ SheetPromised (I m1 m2) (scalar (now (k .entry))) (scalar (now (l .entry))) r (now (sheet .exit)) ⌝ }
+    ensures question { λ r. ⌜ number r ≡ iQuestion card (now (k .entry)) (now (l .entry)) m1 m2 (length (now (sheet .entry))) ⌝ }
 {
     if digits::are_scalars(k, l) {
-        if are_windows(m1, m2) {
+        if digits::are_windows(m1, m2) {
             if sheet.len() < SHEET {
                 return Sheet::NoRoom;
             }
@@ -49,19 +53,9 @@ pub fn plan_i(k: &[u8], l: &[u8], m1: u32, m2: u32, sheet: &mut [u8]) -> Sheet
     Sheet::BadScalar
 }
 
-// Question 2 of both windows.
-fn are_windows(m1: u32, m2: u32) -> bool
-    ensures { λ r. ⌜ r ≡ (isWindow m1 && isWindow m2) ⌝ }
-{
-    if Plan::is_window(m1) {
-        return Plan::is_window(m2);
-    }
-    false
-}
-
 // How many places were written.
 fn places_of(recoded: Recoded) -> usize
-    ensures { λ r. ⌜ r ≡ Call.length recoded ⌝ }
+    ensures { λ r. ⌜ r ≡ placesWritten recoded ⌝ }
 {
     match recoded {
         Recoded::BadScalar => 0,

@@ -4,7 +4,8 @@ ghost use Prim.Native.Nat.{_<_, _≤_};
 ghost use Rattle.sheet.specs.Numeral.{figure, numeral};
 ghost use Rattle.sheet.specs.Plan.{point};
 ghost use Rattle.sheet.specs.Spelling;
-ghost use Rattle.writer.specs.Parts.{Put, Room, signed, pointLine};
+ghost use Rattle.digits.specs.Byte.{signed};
+ghost use Rattle.writer.specs.Body.Parts.{Put, Room, pointLine};
 
 // Each of these puts bytes at a place of the buffer, and returns the place behind them.
 

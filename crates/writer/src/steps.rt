@@ -8,11 +8,12 @@ ghost use Rattle.digits.specs.Row;
 ghost use Rattle.digits.specs.Two;
 ghost use Rattle.sheet.specs.Digits.{weight};
 ghost use Rattle.sheet.specs.Plan.{point};
-ghost use Rattle.sheet.specs.Rows.{weigh};
+ghost use Rattle.sheet.specs.Digits.Accepted.{weigh};
 ghost use Rattle.sheet.specs.Sound.{moveLines, stepLines};
 ghost use Rattle.sheet.specs.Spelling.{lineFeed, spell};
 ghost use Rattle.written.specs.Written.{unlessZero, placeSteps, movesOf, stepsDown};
-ghost use Rattle.writer.specs.Parts.{Put, Room, signed, stepsBytes, columnAt, columnsBelow};
+ghost use Rattle.digits.specs.Byte.{signed};
+ghost use Rattle.writer.specs.Body.Parts.{Put, Room, stepsBytes, columnAt, columnsDown};
 use crate::write::PLACES;
 use sheet::Plan;
 
@@ -84,8 +85,8 @@ fn put_moves(
     q: &[u8; PLACES],
     top: usize,
 ) -> usize
-    requires { ⌜ (top ≤ 529) × Room (now out) at (spell (moveLines (movesOf plan (columnsBelow (now p) (now q) top)))) ⌝ }
-    ensures { λ r. ⌜ Put (now (out .entry)) (now (out .exit)) at r (spell (moveLines (movesOf plan (columnsBelow (now (p .entry)) (now (q .entry)) top)))) ⌝ }
+    requires { ⌜ (top ≤ 529) × Room (now out) at (spell (moveLines (movesOf plan (columnsDown (now p) (now q) top)))) ⌝ }
+    ensures { λ r. ⌜ Put (now (out .entry)) (now (out .exit)) at r (spell (moveLines (movesOf plan (columnsDown (now (p .entry)) (now (q .entry)) top)))) ⌝ }
 {
     let mut next = at;
     let mut i = top;
@@ -107,8 +108,8 @@ pub fn put_all(
     q: &[u8; PLACES],
     top: usize,
 ) -> usize
-    requires { ⌜ ((top < 529) × T (not (Two.blank (columnAt (now p) (now q) top)))) × Room (now out) at (spell (stepLines (stepsDown plan (columnsBelow (now p) (now q) (suc top))))) ⌝ }
-    ensures { λ r. ⌜ Put (now (out .entry)) (now (out .exit)) at r (spell (stepLines (stepsDown plan (columnsBelow (now (p .entry)) (now (q .entry)) (suc top))))) ⌝ }
+    requires { ⌜ ((top < 529) × T (not (Two.blank (columnAt (now p) (now q) top)))) × Room (now out) at (spell (stepLines (stepsDown plan (columnsDown (now p) (now q) (suc top))))) ⌝ }
+    ensures { λ r. ⌜ Put (now (out .entry)) (now (out .exit)) at r (spell (stepLines (stepsDown plan (columnsDown (now (p .entry)) (now (q .entry)) (suc top))))) ⌝ }
 {
     let next = put_steps(out, at, plan, b'L', p[top], q[top]);
     put_moves(out, next, plan, p, q, top)
@@ -139,7 +140,7 @@ fn weigh_place(plan: Plan, p: u8, q: u8) -> u32
 // What the plan counts of all places.
 pub fn weigh(plan: Plan, p: &[u8; PLACES], q: &[u8; PLACES], places: usize) -> u32
     requires { ⌜ places ≤ 529 ⌝ }
-    ensures { λ r. ⌜ (r ≡ weight plan (columnsBelow (now (p .entry)) (now (q .entry)) places)) × (r ≤ 2 * places) ⌝ }
+    ensures { λ r. ⌜ (r ≡ weight plan (columnsDown (now (p .entry)) (now (q .entry)) places)) × (r ≤ 2 * places) ⌝ }
 {
     let mut weight = 0;
     let mut i = 0;

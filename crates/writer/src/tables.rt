@@ -5,7 +5,7 @@ ghost use Rattle.sheet.specs.Plan.{stored, tables};
 ghost use Rattle.sheet.specs.Sound.{Window};
 ghost use Rattle.sheet.specs.Spelling.{spell};
 ghost use Rattle.written.specs.Valid.{Valid};
-ghost use Rattle.writer.specs.Parts.{Put, Room, pointLine, alone, oddLines, windowBytes};
+ghost use Rattle.writer.specs.Body.Parts.{Put, Room, pointLine, alone, oddLines, windowBytes};
 use sheet::Plan;
 
 // −1, in two's complement.

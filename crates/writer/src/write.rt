@@ -9,7 +9,7 @@ ghost use Rattle.digits.specs.Two.{blank};
 ghost use Rattle.sheet.specs.Sound.{stepLines};
 ghost use Rattle.sheet.specs.Spelling.{spell};
 ghost use Rattle.written.specs.Written.{stepsDown, written, writtenAdditions};
-ghost use Rattle.writer.specs.Parts.{Put, Room, columnAt, columnsBelow, Ready};
+ghost use Rattle.writer.specs.Body.Parts.{Put, Room, columnAt, columnsDown, Ready};
 use crate::answer::Sheet;
 use sheet::Plan;
 
@@ -36,8 +36,8 @@ fn put_places(
     places: usize,
 ) -> usize
     requires { ⌜ (places ≤ 529) × ((top : ℕ) → places ≡ suc top → T (not (blank (columnAt (now p) (now q) top)))) ⌝ }
-    requires { ⌜ Room (now out) at (spell (stepLines (stepsDown plan (columnsBelow (now p) (now q) places)))) ⌝ }
-    ensures { λ r. ⌜ Put (now (out .entry)) (now (out .exit)) at r (spell (stepLines (stepsDown plan (columnsBelow (now (p .entry)) (now (q .entry)) places)))) ⌝ }
+    requires { ⌜ Room (now out) at (spell (stepLines (stepsDown plan (columnsDown (now p) (now q) places)))) ⌝ }
+    ensures { λ r. ⌜ Put (now (out .entry)) (now (out .exit)) at r (spell (stepLines (stepsDown plan (columnsDown (now (p .entry)) (now (q .entry)) places)))) ⌝ }
 {
     if places == 0 {
         return at;

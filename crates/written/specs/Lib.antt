@@ -1,7 +1,4 @@
 -- The sheet written for a plan: the definitions stand first, what is shown of them behind them.
 pub mod Valid
 pub mod Written
-pub mod Accepted
-pub mod Columns
-pub mod Steps
-pub mod Lengths
+pub mod Promise

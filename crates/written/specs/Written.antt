@@ -1,10 +1,14 @@
 -- The sheet that is written for two scalars and a plan: its digits are those of the row or joint form, from the highest
 -- place down to place 0.
+pub mod Accepted
+pub mod Columns
+pub mod Stepping
+pub mod Lengths
 use mathlib.Core.Bool.{cond}
 use mathlib.Core.List.{List, [], _∷_, _++_, reverse}
 use Prim.Native.Nat.{ℕ}
-use lib.IntN.{ℤ, pos}
-use Rattle.digits.specs.Two.{Column, blank}
+use lib.IntN.{pos}
+use Rattle.digits.specs.Two.{Column, blank, paired}
 use Rattle.forms.specs.Joint.{joint}
 use Rattle.forms.specs.Row.{row}
 use Rattle.sheet.specs.declared.Plan.{Plan}
@@ -15,13 +19,6 @@ use Rattle.sheet.specs.Plan.{Point, point, slots, tables}
 use Rattle.sheet.specs.Questions.{additions, doublings}
 use Rattle.sheet.specs.Sound.{Moves, stop, doubled, added, Steps, nothing, loaded, sheetLines}
 use Rattle.sheet.specs.Spelling.{spell}
-
--- two rows over the same places make columns; above its top a row has zeros
-unfoldable pub paired : List ℤ → List ℤ → List Column
-paired [] [] = []
-paired (a ∷ xs) [] = point a (pos 0) ∷ paired xs []
-paired [] (b ∷ ys) = point (pos 0) b ∷ paired [] ys
-paired (a ∷ xs) (b ∷ ys) = point a b ∷ paired xs ys
 
 -- the digits that a plan takes for k and l
 unfoldable pub digits : Plan → ℕ → ℕ → List Column

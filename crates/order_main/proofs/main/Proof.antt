@@ -28,7 +28,7 @@ order-requires c κs = search needs
 
 module _ (c : tie.After-order) where
   fits : c .order .result ≤ length (c .order .last .1 .0)
-  fits = rw (c .order .ensures .0, c .order .ensures .1) (order-fits _ _)
+  fits = rw (c .order .ensures .0, c .order .ensures .1 .0) (order-fits _ _)
 
 array-share-prefix-text : tie.Need-array-share-prefix-text
 array-share-prefix-text c = fits (c .before)

@@ -1,5 +1,6 @@
 -- `main` is safe: the text of the answer lies within its array.
 use native.Mathlib.Omega.{arith}
+use Rattle.reader.specs.Text.Held.{held-long}
 use borrow.Author.Needs.{needs}
 use Rattle.reader_main.proofs.main.Statement.{statement}
 use Rattle.reader_main.proofs.main.Tie as tie
@@ -26,7 +27,7 @@ part-write-all-start : tie.Need-part-write-all-start
 part-write-all-start c = search needs
 
 part-write-all-end : tie.Need-part-write-all-end
-part-write-all-end c = omega (arith, c .before .before .verdict .ensures .1 .1, c .before .before .verdict .ensures .1 .0)
+part-write-all-end c = omega (arith, held-long (c .before .before .verdict .ensures), c .before .before .verdict .ensures .ends)
 
 write-all-requires : tie.Need-write-all-requires
 write-all-requires c κs = search needs

@@ -3,7 +3,7 @@ use mathlib.Core.Path.{sym, ap, _∙_}
 use lib.ListN.{length}
 use Rattle.digits.specs.Limits.{card}
 use Rattle.sheet.specs.declared.Plan.{Plan}
-use Rattle.chooser.specs.Call.{planAnswer, planBuffer}
+use Rattle.chooser.specs.Body.Choice.{planAnswer, planBuffer}
 use borrow.Author.Needs.{needs}
 use Rattle.chooser.proofs.call.sheet_of.Statement.{statement}
 use Rattle.chooser.proofs.call.sheet_of.Tie as tie
@@ -29,7 +29,7 @@ returns c =
     let a = w .before .before .before .before .before .before .before .args in
     let e = w .before .before .enum-told .given .1 in (
       w .plan-j .ensures .0 ∙ ap (λ (p : Plan). planAnswer card p (a .k .now) (a .l .now) (length (a .sheet .now))) (sym e),
-      w .plan-j .ensures .1 ∙ ap (λ (p : Plan). planBuffer card p (a .k .now) (a .l .now) (a .sheet .now)) (sym e),
+      w .plan-j .ensures .1 .0 ∙ ap (λ (p : Plan). planBuffer card p (a .k .now) (a .l .now) (a .sheet .now)) (sym e),
     )
 
 same-length-2 : tie.Need-same-length-2
@@ -41,7 +41,7 @@ returns-2 c =
     let a = w .before .before .before .before .before .before .before .before .args in
     let e = w .before .before .before .plan .given .1 in (
       w .plan-i .ensures .0 ∙ ap (λ (p : Plan). planAnswer card p (a .k .now) (a .l .now) (length (a .sheet .now))) (sym e),
-      w .plan-i .ensures .1 ∙ ap (λ (p : Plan). planBuffer card p (a .k .now) (a .l .now) (a .sheet .now)) (sym e),
+      w .plan-i .ensures .1 .0 ∙ ap (λ (p : Plan). planBuffer card p (a .k .now) (a .l .now) (a .sheet .now)) (sym e),
     )
 
 pub sheet-of-spec : {M : Type 1} → statement M

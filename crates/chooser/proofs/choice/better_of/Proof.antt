@@ -1,7 +1,7 @@
 -- `better_of` meets its contract: the plan is within the limit or not, and comes before the best or not.
 use mathlib.Core.Path.{sym, ap, ap₂, _∙_}
 use mathlib.Core.Bool.{Bool, cond}
-use Rattle.chooser.specs.Choice.{costKey}
+use Rattle.chooser.specs.Body.Choice.{costKey}
 use Rattle.chooser.specs.Lexicographic.{before}
 use borrow.Author.Needs.{needs}
 use Rattle.chooser.proofs.choice.better_of.Statement.{statement}

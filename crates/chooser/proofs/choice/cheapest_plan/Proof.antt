@@ -1,6 +1,6 @@
 -- `cheapest_plan` meets its contract: the weights are those of the scalars.
 use mathlib.Core.Path.{_∙_}
-use Rattle.digits.specs.Bytes.{scalar-bits}
+use Rattle.digits.specs.Scalar.Value.{scalar-bits}
 use Rattle.digits.specs.Scalar.{scalar}
 use Rattle.chooser.proofs.Turns.{plan-by-weights}
 use borrow.Author.Needs.{needs}

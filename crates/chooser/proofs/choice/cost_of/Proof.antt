@@ -1,6 +1,6 @@
 -- `cost_of` meets its contract, number by number.
 use Prim.Native.Nat.{_-_}
-use Rattle.chooser.specs.Choice.{costKey}
+use Rattle.chooser.specs.Body.Choice.{costKey}
 use borrow.Author.Needs.{needs}
 use Rattle.chooser.proofs.choice.cost_of.Statement.{statement}
 use Rattle.chooser.proofs.choice.cost_of.Tie as tie

@@ -7,7 +7,7 @@ use lib.ListN.{drop}
 use Rattle.sheet.specs.declared.Plan.{Plan}
 use Rattle.sheet.specs.declared.Plan.the-variants.{I}
 use Rattle.chooser.specs.Cheapest.{plans, within}
-use Rattle.chooser.specs.Choice.{costKey}
+use Rattle.chooser.specs.Body.Choice.{costKey}
 use Rattle.chooser.specs.Lexicographic.{least}
 use Rattle.chooser.proofs.Turns.{next-plan, last-plan}
 use Rattle.chooser.proofs.choice.least_plan.Statement.{statement}

@@ -2,7 +2,7 @@
 use mathlib.Core.Path.{ap}
 use native.Mathlib.Omega.{arith}
 use Rattle.sheet.specs.declared.Plan.{Plan}
-use Rattle.chooser.specs.Choice.{planWeight}
+use Rattle.chooser.specs.Body.Choice.{planWeight}
 use borrow.Author.Needs.{needs}
 use Rattle.chooser.proofs.choice.plan_weight.Statement.{statement}
 use Rattle.chooser.proofs.choice.plan_weight.Tie as tie

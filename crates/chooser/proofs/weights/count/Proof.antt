@@ -4,7 +4,7 @@ use Prim.Native.Nat.{_+_, _-_, _≤_}
 use native.Mathlib.Omega.{arith}
 use borrow.Author.Needs.{needs}
 use lib.ListN.{length, drop, getD}
-use Rattle.chooser.specs.Weights.{nonzero}
+use Rattle.chooser.specs.Body.Weights.{nonzero}
 use Rattle.chooser.proofs.Counts.{marked-most, count-next, count-end}
 use Rattle.chooser.proofs.weights.count.Statement.{statement}
 use Rattle.chooser.proofs.weights.count.Tie as tie

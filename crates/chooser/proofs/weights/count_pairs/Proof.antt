@@ -4,7 +4,7 @@ use Prim.Native.Nat.{_+_, _-_, _≤_, _<_}
 use native.Mathlib.Omega.{arith}
 use borrow.Author.Needs.{needs}
 use lib.ListN.{length, drop, getD}
-use Rattle.chooser.specs.Weights.{nonzeroPairs}
+use Rattle.chooser.specs.Body.Weights.{nonzeroPairs}
 use Rattle.chooser.proofs.Counts.{marked-most, pairs-next, pairs-end}
 use Rattle.chooser.proofs.weights.count_pairs.Statement.{statement}
 use Rattle.chooser.proofs.weights.count_pairs.Tie as tie

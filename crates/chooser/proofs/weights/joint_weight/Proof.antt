@@ -3,7 +3,7 @@ use mathlib.Core.Path.{ap₂, _∙_}
 use native.Mathlib.Omega.{arith}
 use borrow.Author.Needs.{needs}
 use lib.ListN.{replicate}
-use Rattle.chooser.specs.Weights.{nonzeroPairs}
+use Rattle.chooser.specs.Body.Weights.{nonzeroPairs}
 use Rattle.chooser.proofs.Counts.{joint-call}
 use Rattle.chooser.proofs.weights.joint_weight.Statement.{statement}
 use Rattle.chooser.proofs.weights.joint_weight.Tie as tie
@@ -31,7 +31,7 @@ returns c =
     let a = c .before .before .before .before .before .before .before .before .before .before .args in
     let p = c .before .before .before .before .before .before .before .before .before .before .pre in
     let e = c .before .before .before .before .before .joint .ensures in
-    c .count-pairs .ensures ∙ ap₂ nonzeroPairs (e .1 .0) (e .1 .1)
+    c .count-pairs .ensures ∙ ap₂ nonzeroPairs (e .1 .0) (e .1 .1 .0)
     ∙ joint-call (a .k .now) (a .l .now) (replicate 529 0) (replicate 529 0) (p .0) (p .1 .0) (p .1 .1 .0) (p .1 .1 .1) (omega arith) (omega arith)
 
 pub joint-weight-spec : {M : Type 1} → statement M

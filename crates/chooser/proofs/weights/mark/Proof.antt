@@ -1,6 +1,6 @@
 -- `mark` meets its contract, by the test.
 use mathlib.Core.Path.{sym, ap}
-use Rattle.chooser.specs.Weights.{marked}
+use Rattle.chooser.specs.Body.Weights.{marked}
 use Rattle.chooser.proofs.Counts.{marked-one}
 use Rattle.chooser.proofs.weights.mark.Statement.{statement}
 use Rattle.chooser.proofs.weights.mark.Tie as tie

@@ -3,7 +3,7 @@ use mathlib.Core.Path.{_≡_, sym, ap, _∙_}
 use native.Mathlib.Omega.{arith}
 use Prim.Native.Nat.{_+_}
 use borrow.Author.Needs.{needs}
-use Rattle.chooser.specs.Weights.{marked}
+use Rattle.chooser.specs.Body.Weights.{marked}
 use Rattle.chooser.proofs.Counts.{marked-one}
 use Rattle.chooser.proofs.weights.mark_either.Statement.{statement}
 use Rattle.chooser.proofs.weights.mark_either.Tie as tie

@@ -2,7 +2,7 @@
 use mathlib.Core.Path.{ap, _∙_}
 use native.Mathlib.Omega.{arith}
 use borrow.Author.Needs.{needs}
-use Rattle.chooser.specs.Weights.{nonzero}
+use Rattle.chooser.specs.Body.Weights.{nonzero}
 use Rattle.chooser.proofs.Counts.{row-call}
 use Rattle.chooser.proofs.weights.row_weight_in.Statement.{statement}
 use Rattle.chooser.proofs.weights.row_weight_in.Tie as tie
@@ -20,7 +20,7 @@ returns : tie.Need-returns
 returns c =
     let a = c .before .before .before .before .before .before .before .before .args in
     let p = c .before .before .before .before .before .before .before .before .pre in
-    c .count .ensures ∙ ap nonzero (c .before .before .before .before .row .ensures .1)
+    c .count .ensures ∙ ap nonzero (c .before .before .before .before .row .ensures .1 .0)
     ∙ row-call (a .bytes .now) (a .m) (a .digits .now) (p .0 .0) (p .0 .1 .0) (p .0 .1 .1 .0) (p .0 .1 .1 .1) (omega (arith, p .1))
 
 pub row-weight-in-spec : {M : Type 1} → statement M

@@ -3,7 +3,7 @@ use mathlib.Core.Path.{_≡_, sym, ap, _∙_}
 use Prim.Native.Nat.{_-_, _≤_, _<_}
 use native.Mathlib.Omega.{arith}
 use Rattle.digits.specs.Scalar.{scalar}
-use Rattle.chooser.specs.Weights.{rowWeights}
+use Rattle.chooser.specs.Body.Weights.{rowWeights}
 use Rattle.chooser.proofs.Windows.{begun, begun-none, begun-more, begun-all, weights-length, weights-at}
 use Rattle.chooser.proofs.weights.row_weights.Statement.{statement}
 use Rattle.chooser.proofs.weights.row_weights.Tie as tie

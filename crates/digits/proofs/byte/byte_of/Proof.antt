@@ -11,11 +11,9 @@ use mir.Syntax.{w8, w16}
 use mir.Val.{SFits, Fits, toZ, ofZ}
 use mir.Facts.{toZ-ofZ, sfits-widen}
 use Rattle.digits.specs.Byte.{byteOf}
-use Rattle.digits.specs.Integer.{show-eq, up-subℕ}
+use Rattle.digits.specs.Integer.Parts.{show-eq, up-subℕ}
 use Rattle.digits.proofs.byte.byte_of.Statement.{statement}
 use Rattle.digits.proofs.byte.byte_of.Tie as tie
-use Rattle.digits.proofs.byte.byte_of.Reads as reads
-use Rattle.digits.proofs.byte.byte_of.Lts as lts
 
 wide : (d : ℤ) → SFits w8 d → toZ w16 (ofZ w16 (toZ w8 (ofZ w8 d))) ≡ d
 wide d f = ap (λ (z : ℤ). toZ w16 (ofZ w16 z)) (toZ-ofZ f) ∙ toZ-ofZ (sfits-widen tt f)

@@ -1,9 +1,9 @@
 -- `sheets_cheapest` meets its contract: it tells what `cheapest` answers, whose length fits the low half.
 use mathlib.Core.Path.{ap, _∙_}
 use native.Mathlib.Omega.{arith}
-use lib.ListN as ListN
-use Rattle.writer.specs.Call.{length}
-use Rattle.host.specs.Lengths.{cheapest-short}
+use lib.ListN.{length}
+use Rattle.writer.specs.Call.{bytesWritten}
+use Rattle.host.specs.Told.Lengths.{cheapest-short}
 use Rattle.host.specs.Told.{toldSheet}
 use borrow.Author.Needs.{needs}
 use Rattle.host.proofs.calls.sheets_cheapest.Statement.{statement}
@@ -19,9 +19,9 @@ written-requires c κs =
     let a = s .before .before .args in
     omega (
       arith,
-      ap length (w .cheapest .ensures .0),
+      ap bytesWritten (w .cheapest .ensures .0),
       cheapest-short (a .k .now) (a .l .now) (λ i. s .before .shared-slice-known .given i .fits) (λ i. s .shared-slice-known2 .given i .fits) (a .limit)
-          (ListN.length (a .sheet .now)),
+          (length (a .sheet .now)),
     )
 
 same-length : tie.Need-same-length

@@ -1,9 +1,9 @@
 -- `sheets_joint` meets its contract: it tells what `joint` answers, whose length fits the low half.
 use mathlib.Core.Path.{ap, _∙_}
 use native.Mathlib.Omega.{arith}
-use lib.ListN as ListN
-use Rattle.recode.specs.Call.{length}
-use Rattle.host.specs.Lengths.{joint-short}
+use lib.ListN.{length}
+use Rattle.recode.specs.Call.{placesWritten}
+use Rattle.host.specs.Told.Lengths.{joint-short}
 use Rattle.host.specs.Told.{toldRecoded}
 use borrow.Author.Needs.{needs}
 use Rattle.host.proofs.calls.sheets_joint.Statement.{statement}
@@ -19,8 +19,8 @@ recoded-requires c κs =
     let a = s .before .before .args in
     omega (
       arith,
-      ap length (w .joint .ensures .0),
-      joint-short (a .k .now) (a .l .now) (ListN.length (a .k-digits .now)) (ListN.length (a .l-digits .now))
+      ap placesWritten (w .joint .ensures .0),
+      joint-short (a .k .now) (a .l .now) (length (a .k-digits .now)) (length (a .l-digits .now))
           (λ i. s .before .shared-slice-known .given i .fits) (λ i. s .shared-slice-known2 .given i .fits),
     )
 
@@ -33,7 +33,7 @@ same-length-2 c = search needs
 returns : tie.Need-returns
 returns c =
     let w = c .before .before .before .before .before in
-    (c .recoded .ensures ∙ ap toldRecoded (w .joint .ensures .0), w .joint .ensures .1)
+    (c .recoded .ensures ∙ ap toldRecoded (w .joint .ensures .0), (w .joint .ensures .1 .0, w .joint .ensures .1 .1 .0))
 
 pub sheets-joint-spec : {M : Type 1} → statement M
 sheets-joint-spec =

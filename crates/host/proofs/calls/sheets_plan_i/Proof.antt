@@ -1,9 +1,9 @@
 -- `sheets_plan_i` meets its contract: it tells what `plan_i` answers, whose length fits the low half.
 use mathlib.Core.Path.{ap, _∙_}
 use native.Mathlib.Omega.{arith}
-use lib.ListN as ListN
-use Rattle.writer.specs.Call.{length}
-use Rattle.host.specs.Lengths.{i-short}
+use lib.ListN.{length}
+use Rattle.writer.specs.Call.{bytesWritten}
+use Rattle.host.specs.Told.Lengths.{i-short}
 use Rattle.host.specs.Told.{toldSheet}
 use borrow.Author.Needs.{needs}
 use Rattle.host.proofs.calls.sheets_plan_i.Statement.{statement}
@@ -19,9 +19,9 @@ written-requires c κs =
     let a = s .before .before .args in
     omega (
       arith,
-      ap length (w .plan-i .ensures .0),
+      ap bytesWritten (w .plan-i .ensures .0),
       i-short (a .k .now) (a .l .now) (λ i. s .before .shared-slice-known .given i .fits) (λ i. s .shared-slice-known2 .given i .fits) (a .m1) (a .m2)
-          (ListN.length (a .sheet .now)),
+          (length (a .sheet .now)),
     )
 
 same-length : tie.Need-same-length
@@ -30,7 +30,7 @@ same-length c = search needs
 returns : tie.Need-returns
 returns c =
     let w = c .before .before .before in
-    (c .written .ensures ∙ ap toldSheet (w .plan-i .ensures .0), w .plan-i .ensures .1)
+    (c .written .ensures ∙ ap toldSheet (w .plan-i .ensures .0), w .plan-i .ensures .1 .0)
 
 pub sheets-plan-i-spec : {M : Type 1} → statement M
 sheets-plan-i-spec = tie.close (tie.spec plan-i-requires written-requires same-length returns)

@@ -2,7 +2,7 @@
 use mathlib.Core.Path.{ap, _∙_}
 use native.Mathlib.Omega.{arith}
 use Rattle.digits.specs.Limits.{card}
-use Rattle.host.specs.Lines.{line-within}
+use Rattle.host.specs.Told.Lines.{line-within}
 use Rattle.host.specs.Told.{line, toldJudgement}
 use borrow.Author.Needs.{needs}
 use Rattle.host.proofs.calls.sheets_read.Statement.{statement}

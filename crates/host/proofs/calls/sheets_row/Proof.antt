@@ -1,9 +1,9 @@
 -- `sheets_row` meets its contract: it tells what `row` answers, whose length fits the low half.
 use mathlib.Core.Path.{ap, _∙_}
 use native.Mathlib.Omega.{arith}
-use lib.ListN as ListN
-use Rattle.recode.specs.Call.{length}
-use Rattle.host.specs.Lengths.{row-short}
+use lib.ListN.{length}
+use Rattle.recode.specs.Call.{placesWritten}
+use Rattle.host.specs.Told.Lengths.{row-short}
 use Rattle.host.specs.Told.{toldRecoded}
 use borrow.Author.Needs.{needs}
 use Rattle.host.proofs.calls.sheets_row.Statement.{statement}
@@ -19,8 +19,8 @@ recoded-requires c κs =
     let a = s .before .args in
     omega (
       arith,
-      ap length (w .row .ensures .0),
-      row-short (a .scalar .now) (a .m) (ListN.length (a .digits .now)) (λ i. s .shared-slice-known .given i .fits),
+      ap placesWritten (w .row .ensures .0),
+      row-short (a .scalar .now) (a .m) (length (a .digits .now)) (λ i. s .shared-slice-known .given i .fits),
     )
 
 same-length : tie.Need-same-length
@@ -29,7 +29,7 @@ same-length c = search needs
 returns : tie.Need-returns
 returns c =
     let w = c .before .before .before in
-    (c .recoded .ensures ∙ ap toldRecoded (w .row .ensures .0), w .row .ensures .1)
+    (c .recoded .ensures ∙ ap toldRecoded (w .row .ensures .0), w .row .ensures .1 .0)
 
 pub sheets-row-spec : {M : Type 1} → statement M
 sheets-row-spec = tie.close (tie.spec row-requires recoded-requires same-length returns)

@@ -1,7 +1,7 @@
 -- `recoded` meets its contract: what is packed is what is told of each answer.
 use mathlib.Core.Path.{sym, ap, _∙_}
 use native.Mathlib.Omega.{arith}
-use Rattle.recode.specs.Call.{length}
+use Rattle.recode.specs.Call.{placesWritten}
 use Rattle.host.specs.Told.{toldRecoded}
 use borrow.Author.Needs.{needs}
 use Rattle.host.proofs.told.recoded.Statement.{statement}
@@ -29,7 +29,7 @@ enum-known-answer : tie.Need-enum-known-answer
 enum-known-answer c = search needs
 
 pack-requires-4 : tie.Need-pack-requires-4
-pack-requires-4 c κs = omega (arith, c .before .before .before .pre, ap length (c .before .answer .given .1))
+pack-requires-4 c κs = omega (arith, c .before .before .before .pre, ap placesWritten (c .before .answer .given .1))
 
 returns : tie.Need-returns
 returns c = c .pack .ensures ∙ ap toldRecoded (sym (c .before .enum-told .given .1))

@@ -1,7 +1,7 @@
 -- `written` meets its contract: what is packed is what is told of each answer.
 use mathlib.Core.Path.{sym, ap, _∙_}
 use native.Mathlib.Omega.{arith}
-use Rattle.writer.specs.Call.{length}
+use Rattle.writer.specs.Call.{bytesWritten}
 use Rattle.host.specs.Told.{toldSheet}
 use borrow.Author.Needs.{needs}
 use Rattle.host.proofs.told.written.Statement.{statement}
@@ -35,7 +35,7 @@ enum-known-answer : tie.Need-enum-known-answer
 enum-known-answer c = search needs
 
 pack-requires-5 : tie.Need-pack-requires-5
-pack-requires-5 c κs = omega (arith, c .before .before .before .pre, ap length (c .before .answer .given .1))
+pack-requires-5 c κs = omega (arith, c .before .before .before .pre, ap bytesWritten (c .before .answer .given .1))
 
 returns : tie.Need-returns
 returns c = c .pack .ensures ∙ ap toldSheet (sym (c .before .enum-told .given .1))

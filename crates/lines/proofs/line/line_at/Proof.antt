@@ -7,7 +7,7 @@ use lib.ListN.{drop, take, length-drop}
 use lib.Seq.{length-take-le}
 use Rattle.digits.specs.Limits.{card}
 use Rattle.sheet.specs.Spelling.{lineFeed, readLine}
-use Rattle.sheet.specs.Field.{First}
+use Rattle.sheet.specs.Spelling.Field.{First}
 use Rattle.lines.specs.Coded.{Doubles, coded}
 use Rattle.sheet.proofs.CutTurns.{to-end}
 use Rattle.lines.proofs.LineAt.{line-inside, line-past, took-line, took-last, took-double}

@@ -6,7 +6,7 @@ use Prim.Native.Nat.{ℕ, _+_, _-_}
 use lib.ListN.{length, take, drop, length-drop}
 use lib.Seq.{length-take-le}
 use Rattle.sheet.specs.Spelling.{comma, readPoint}
-use Rattle.sheet.specs.Field.{First}
+use Rattle.sheet.specs.Spelling.Field.{First}
 use Rattle.sheet.proofs.CutTurns.{to-end}
 use Rattle.lines.specs.Coded.{coded, pointed}
 use Rattle.lines.proofs.LineRead.{stepped-one, stepped-more, stepped-two}

@@ -1,7 +1,7 @@
 -- `one_figure` meets its contract, by the figure (PointRead).
 use mathlib.Core.Path.{sym, ap, subst, _∙_}
 use Prim.Native.Nat.{ℕ, _≤_, _<_}
-use Rattle.sheet.specs.Field.{decimalOf}
+use Rattle.sheet.specs.Spelling.Field.{decimalOf}
 use Rattle.sheet.specs.declared.figures.Decimal.the-variants.{Is}
 use Rattle.lines.proofs.PointRead.{one-is, one-not}
 use borrow.Author.Needs.{needs}

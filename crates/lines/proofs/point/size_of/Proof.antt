@@ -2,7 +2,7 @@
 use mathlib.Core.Path.{sym, ap, _∙_}
 use mathlib.Core.List.{List}
 use Prim.Native.Nat.{ℕ}
-use Rattle.sheet.specs.Field.{decimalOf}
+use Rattle.sheet.specs.Spelling.Field.{decimalOf}
 use Rattle.sheet.specs.Numeral.{number}
 use Rattle.lines.proofs.PointRead.{one-byte, two-bytes, no-size}
 use borrow.Author.Needs.{needs}

@@ -1,7 +1,7 @@
 -- `two_figures` meets its contract, by its figures (PointRead).
 use mathlib.Core.Path.{sym, ap, ap₂, subst, _∙_}
 use Prim.Native.Nat.{ℕ, _+_, _*_, _≤_, _<_}
-use Rattle.sheet.specs.Field.{decimalOf}
+use Rattle.sheet.specs.Spelling.Field.{decimalOf}
 use Rattle.sheet.specs.declared.figures.Decimal.the-variants.{Is}
 use Rattle.lines.proofs.PointRead.{two-padded, two-first, two-second, two-are}
 use borrow.Author.Needs.{needs}

@@ -3,7 +3,7 @@ use mathlib.Core.Path.{sym, ap, _∙_}
 use mathlib.Core.List.{List}
 use Prim.Native.Nat.{ℕ}
 use Rattle.digits.specs.Limits.{card}
-use Rattle.sheet.specs.Field.{isNumeral}
+use Rattle.sheet.specs.Spelling.Field.{isNumeral}
 use Rattle.sheet.specs.Spelling.{comma, cut}
 use Rattle.order.specs.Order.{readFields}
 use Rattle.order.proofs.Orders.{Ordered, some-order, no-order}

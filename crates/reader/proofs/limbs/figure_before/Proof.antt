@@ -2,7 +2,7 @@
 use native.Mathlib.Omega.{arith}
 use mathlib.Core.Path.{_≡_, ap, _∙_}
 use Prim.Native.Nat.{suc, _-_}
-use Rattle.reader.specs.Limbs.{before}
+use Rattle.reader.specs.Body.Limbs.{before}
 use Rattle.reader.proofs.LimbTurns.{before-none, before-last, figure-small}
 use borrow.Author.Needs.{needs}
 use Rattle.reader.proofs.limbs.figure_before.Statement.{statement}

@@ -14,10 +14,10 @@ use Rattle.sheet.specs.Line.{Header}
 use Rattle.sheet.specs.Answer.{heading}
 use Rattle.sheet.specs.Questions.{unless, sameNumber, samePoint, result, wrong}
 use Rattle.survey.specs.Survey.{Clear}
-use Rattle.reader.specs.Accumulator.{Is}
+use Rattle.reader.specs.Body.Accumulator.{Is}
 use Rattle.reader.specs.declared.limbs.Sum.{Sum}
 use Rattle.sheet.proofs.FieldTurns.{numeral-parts}
-use Rattle.reader.specs.Limbs.{value}
+use Rattle.reader.specs.Body.Limbs.{value}
 use Rattle.lines.specs.Coded.{headField, ScalarIn}
 use Rattle.lines.proofs.FirstLine.{head-scalars}
 use Rattle.reader.proofs.SumTurns.{is-number}

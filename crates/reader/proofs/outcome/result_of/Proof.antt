@@ -5,7 +5,7 @@ use mathlib.Core.Path.{sym, subst, _∙_}
 use Prim.Native.Nat.{_≤_, _-_}
 use lib.ListN.{length}
 use Rattle.sheet.specs.Plan.{Point}
-use Rattle.reader.specs.Accumulator.{Loaded, Added}
+use Rattle.reader.specs.Body.Accumulator.{Loaded, Added}
 use Rattle.lines.proofs.Was.{was}
 use Rattle.reader.proofs.ResultTurns.{Held, roomy, some-place, held-start, held-end, held-table, held-last, held-other, held-load, held-add, held-double, held-store}
 use Rattle.reader.proofs.SumTurns.{point-back}

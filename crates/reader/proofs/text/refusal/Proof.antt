@@ -1,9 +1,6 @@
 -- `refusal` meets its contract: the line's parts, from the last to the first.
-use native.Mathlib.Omega.{arith}
-use mathlib.Core.Path.{sym, ap, _∙_}
-use mathlib.Core.List.{List, [], _∷_, _++_, append-assoc}
-use Prim.Native.Nat.{ℕ}
-use Rattle.sheet.specs.Numeral.{numeral}
+use mathlib.Core.List.{[], append-assoc}
+use Rattle.reader.specs.Text.Held.{held-before}
 use borrow.Author.Needs.{needs}
 use Rattle.reader.proofs.text.refusal.Statement.{statement}
 use Rattle.reader.proofs.text.refusal.Tie as tie
@@ -31,16 +28,12 @@ with-requires-4 c κs = search needs
 
 returns : tie.Need-returns
 returns c =
-    let a = numeral 10 (c .before .before .before .before .before .before .before .args .number) in
-    let b = numeral 10 (c .before .before .before .before .before .before .before .args .line) in
-    let e1 = c .before .before .before .before .before .with .ensures .is ∙ ap (λ (l : List ℕ). 10 ∷ l) (c .before .before .before .before .before .before .empty .ensures .1 .1) in
-    let e2 = c .before .before .before .before .with-decimal .ensures .0 .is ∙ ap (λ (l : List ℕ). b ++ l) e1 in
-    let e3 = c .before .before .before .with2 .ensures .is ∙ ap (λ (l : List ℕ). 44 ∷ l) e2 in
-    let e4 = c .before .before .with-decimal2 .ensures .0 .is ∙ ap (λ (l : List ℕ). a ++ l) e3 in
-    let e5 = c .before .with3 .ensures .is ∙ ap (λ (l : List ℕ). 44 ∷ l) e4 in (
-      c .with4 .ensures .is ∙ ap (λ (l : List ℕ). 78 ∷ l) e5 ∙ ap (λ (l : List ℕ). 78 ∷ 44 ∷ l) (sym (append-assoc a (44 ∷ b) (10 ∷ []))),
-      (omega (arith, c .with4 .ensures .at, c .before .with3 .ensures .at, c .before .before .with-decimal2 .ensures .0 .at, c .before .before .before .with2 .ensures .at, c .before .before .before .before .with-decimal .ensures .0 .at, c .before .before .before .before .before .with .ensures .at, c .before .before .before .before .before .before .empty .ensures .1 .0), c .with4 .ensures .long),
-    )
+    let h1 = held-before (c .before .before .before .before .before .before .empty .ensures .1 .1) (c .before .before .before .before .before .with .ensures) in
+    let h2 = held-before h1 (c .before .before .before .before .with-decimal .ensures .0) in
+    let h3 = held-before h2 (c .before .before .before .with2 .ensures) in
+    let h4 = held-before h3 (c .before .before .with-decimal2 .ensures .0) in
+    let h5 = held-before h4 (c .before .with3 .ensures) in
+    rw append-assoc (held-before h5 (c .with4 .ensures))
 
 pub refusal-spec : {M : Type 1} → statement M
 refusal-spec =

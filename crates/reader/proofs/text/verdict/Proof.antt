@@ -1,9 +1,7 @@
 -- `verdict` meets its contract, by what `read` answers.
-use native.Mathlib.Omega.{arith}
-use mathlib.Core.Path.{sym, ap, _∙_}
-use mathlib.Core.List.{List, _∷_}
-use Prim.Native.Nat.{ℕ}
-use Rattle.reader.specs.Text.{judgementLine}
+use mathlib.Core.Path.{sym, ap, subst, _∙_}
+use Rattle.reader.specs.Text.{Holds, judgementLine}
+use Rattle.reader.specs.Text.Held.{held-before}
 use borrow.Author.Needs.{needs}
 use Rattle.reader.proofs.text.verdict.Statement.{statement}
 use Rattle.reader.proofs.text.verdict.Tie as tie
@@ -30,13 +28,14 @@ refusal-requires : tie.Need-refusal-requires
 refusal-requires c κs = search needs
 
 returns : tie.Need-returns
-returns c = (
-  c .with2 .ensures .is ∙ ap (λ (l : List ℕ). 89 ∷ l) (c .before .with .ensures .is ∙ ap (λ (l : List ℕ). 10 ∷ l) (c .before .before .empty .ensures .1 .1)) ∙ ap judgementLine (sym (sym (c .before .before .before .before .before .read .ensures) ∙ c .before .before .before .enum-told .given .1)),
-  (omega (arith, c .with2 .ensures .at, c .before .with .ensures .at, c .before .before .empty .ensures .1 .0), c .with2 .ensures .long),
-)
+returns c =
+    subst (Holds (c .with2 .result)) (ap judgementLine (sym (sym (c .before .before .before .before .before .read .ensures) ∙ c .before .before .before .enum-told .given .1)))
+    (held-before (held-before (c .before .before .empty .ensures .1 .1) (c .before .with .ensures)) (c .with2 .ensures))
 
 returns-2 : tie.Need-returns-2
-returns-2 c = (c .refusal .ensures .0 ∙ ap judgementLine (sym (sym (c .before .before .before .before .read .ensures) ∙ c .before .before .judgement .given .1)), c .refusal .ensures .1)
+returns-2 c =
+    subst (Holds (c .refusal .result)) (ap judgementLine (sym (sym (c .before .before .before .before .read .ensures) ∙ c .before .before .judgement .given .1)))
+    (c .refusal .ensures)
 
 pub verdict-spec : {M : Type 1} → statement M
 verdict-spec =

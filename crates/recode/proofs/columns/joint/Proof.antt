@@ -1,4 +1,4 @@
--- `joint` meets its contract: each return is one line of JointAnswers.
+-- `joint` meets its contract: each return is one line of Call.Joint.
 use mathlib.Core.Path.{_≡_, sym, _∙_}
 use mathlib.Core.Bool.{true, _&&_}
 use mathlib.Core.List.{List}
@@ -8,8 +8,8 @@ use borrow.Author.Needs.{needs}
 use lib.ListN.{length}
 use Rattle.digits.specs.Limits.{card}
 use Rattle.digits.specs.Scalar.{sized}
-use Rattle.digits.specs.Sized.{both, some-bytes}
-use Rattle.recode.specs.JointAnswers.{bad-scalar, no-first, no-second, written}
+use Rattle.digits.specs.Scalar.Sized.{both, some-bytes}
+use Rattle.recode.specs.Call.Joint.{bad-scalar, no-first, no-second, written}
 use Rattle.recode.proofs.columns.joint.Statement.{statement}
 use Rattle.recode.proofs.columns.joint.Tie as tie
 

@@ -9,9 +9,9 @@ use lib.Dec.{T, eqb}
 use lib.IntN.{ℤ, pos, negsuc, _-ℤ_, _*ℤ_}
 use mir.Syntax.{w16}
 use mir.Val.{SFits, toZ, ofZ}
-use Rattle.digits.specs.Machine.{small-fits}
+use Rattle.digits.specs.Integer.Machine.{small-fits}
 use Rattle.forms.specs.Joint.{digit, turns}
-use Rattle.forms.specs.JointDigit.{digit-rem}
+use Rattle.forms.specs.Joint.Digit.{digit-rem}
 use Rattle.forms.specs.Residue.{residue}
 use Rattle.forms.specs.Test.{Test, same, everyBelow}
 use Rattle.recode.proofs.columns.joint_digit.Statement.{statement}

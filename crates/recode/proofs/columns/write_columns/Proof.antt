@@ -10,13 +10,14 @@ use mir.Syntax.{w8, w16}
 use mir.Val.{SFits, toZ, ofZ}
 use mir.Facts.{toZ-ofZ}
 use Rattle.digits.specs.Byte.{byteOf}
-use Rattle.digits.specs.Integer.{half, size, mag-size}
-use Rattle.digits.specs.Machine.{read-back}
+use Rattle.digits.specs.Integer.{half}
+use Rattle.digits.specs.Integer.Parts.{size, mag-size}
+use Rattle.digits.specs.Integer.Machine.{read-back}
 use Rattle.digits.specs.Two.{Two, P, Q, of}
 use Rattle.forms.specs.Joint.{digit}
 use Rattle.forms.specs.Test.{rows}
 use Rattle.recode.specs.declared.low.Low.{Low}
-use Rattle.recode.specs.Remainder.{Held}
+use Rattle.recode.specs.Body.Remainder.{Held}
 use Rattle.recode.proofs.JointLoop.{Given, State, begin, refill, finish, inside, small, halved, stored}
 use Rattle.recode.proofs.columns.write_columns.Statement.{statement}
 use Rattle.recode.proofs.columns.write_columns.Tie as tie

@@ -6,12 +6,12 @@ use native.Mathlib.Omega.{arith}
 use borrow.Author.Needs.{needs}
 use lib.IntN.{pos}
 use lib.ListN.{length, take, replicate}
-use Rattle.digits.specs.Bytes.{length-bytes}
+use Rattle.digits.specs.Scalar.Value.{length-bytes}
 use Rattle.digits.specs.Column as Column
 use Rattle.digits.specs.Scalar.{little, scalar, bitLength}
 use Rattle.digits.specs.Two.{P, Q, two}
 use Rattle.forms.specs.Joint.{joint}
-use Rattle.forms.specs.JointLength.{joint-length}
+use Rattle.forms.specs.Joint.Length.{joint-length}
 use Rattle.recode.specs.Call.{filled}
 use Rattle.recode.proofs.JointTurns.{row-length}
 use Rattle.recode.proofs.Prefix.{first-length, first-cleared, first-filled, first-places, little-copied}

@@ -9,8 +9,8 @@ use lib.IntN.{ℤ, pos, _-ℤ_}
 use mir.Syntax.{w16}
 use mir.Val.{SFits, toZ, ofZ}
 use mir.Facts.{toZ-pos, toZ-ofZ}
-use Rattle.digits.specs.Integer.{difference, one-side}
-use Rattle.digits.specs.Machine.{small-fits}
+use Rattle.digits.specs.Integer.Parts.{difference, one-side}
+use Rattle.digits.specs.Integer.Machine.{small-fits}
 use Rattle.forms.specs.Row.{digit}
 use Rattle.recode.proofs.Window.{half-bounds, masked, halfFrom, half-from, half-most, chosen, chosen-is}
 use Rattle.recode.proofs.digit.digit_of.Statement.{statement}

@@ -7,8 +7,9 @@ use lib.Signed.{quotZ}
 use mir.Syntax.{w16, w64}
 use mir.Val.{SFits, toZ, ofZ}
 use mir.Facts.{toZ-ofZ, toZ-pos}
-use Rattle.digits.specs.Integer.{up, down, half, difference, size, mag-size, one-side}
-use Rattle.digits.specs.Machine.{cast-of}
+use Rattle.digits.specs.Integer.{up, down, half}
+use Rattle.digits.specs.Integer.Parts.{difference, size, mag-size, one-side}
+use Rattle.digits.specs.Integer.Machine.{cast-of}
 use Rattle.recode.proofs.digit.rest_of.Statement.{statement}
 use Rattle.recode.proofs.digit.rest_of.Tie as tie
 

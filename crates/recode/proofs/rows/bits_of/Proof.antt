@@ -2,7 +2,7 @@
 use Prim.Native.Nat.{_+_, _*_, _≤_}
 use native.Mathlib.Omega.{arith}
 use borrow.Author.Needs.{needs}
-use Rattle.digits.specs.Bytes.{length-bytes}
+use Rattle.digits.specs.Scalar.Value.{length-bytes}
 use Rattle.recode.proofs.rows.bits_of.Statement.{statement}
 use Rattle.recode.proofs.rows.bits_of.Tie as tie
 

@@ -10,10 +10,11 @@ use mir.Syntax.{w8, w16}
 use mir.Val.{SFits, toZ, ofZ}
 use mir.Facts.{toZ-ofZ}
 use Rattle.digits.specs.Byte.{byteOf}
-use Rattle.digits.specs.Integer.{half, size, mag-size}
-use Rattle.digits.specs.Machine.{read-back}
+use Rattle.digits.specs.Integer.{half}
+use Rattle.digits.specs.Integer.Parts.{size, mag-size}
+use Rattle.digits.specs.Integer.Machine.{read-back}
 use Rattle.forms.specs.Row.{digit}
-use Rattle.recode.specs.Remainder.{Held}
+use Rattle.recode.specs.Body.Remainder.{Held}
 use Rattle.recode.proofs.RowLoop.{Given, State, begin, refill, finish, skipped, still, inside, small, halved, stored, reached}
 use Rattle.recode.proofs.rows.write_digits.Statement.{statement}
 use Rattle.recode.proofs.rows.write_digits.Tie as tie

@@ -6,10 +6,10 @@ use native.Mathlib.Omega.{arith}
 use borrow.Author.Needs.{needs}
 use lib.IntN.{pos}
 use lib.ListN.{length}
-use Rattle.digits.specs.Bytes.{length-bytes}
+use Rattle.digits.specs.Scalar.Value.{length-bytes}
 use Rattle.digits.specs.Scalar.{little, scalar, bitLength}
 use Rattle.forms.specs.Row.{row}
-use Rattle.forms.specs.RowLength.{row-length}
+use Rattle.forms.specs.Row.Length.{row-length}
 use Rattle.recode.specs.Call.{filled}
 use Rattle.recode.proofs.Prefix.{first-length, first-cleared, first-filled, little-copied}
 use Rattle.recode.proofs.rows.write_row.Statement.{statement}

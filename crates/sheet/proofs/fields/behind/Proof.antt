@@ -5,13 +5,12 @@ use mathlib.Core.List.{List}
 use Prim.Native.Nat.{ℕ}
 use lib.ListN.{drop, length-drop}
 use Rattle.sheet.specs.Spelling.{comma}
-use Rattle.sheet.specs.Field.{First}
+use Rattle.sheet.specs.Spelling.Field.{First}
 use Rattle.sheet.proofs.CutTurns.{behind-found, behind-none, to-end}
 use borrow.Author.Needs.{needs}
 use Rattle.sheet.proofs.fields.behind.Statement.{statement}
 use Rattle.sheet.proofs.fields.behind.Tie as tie
 use Rattle.sheet.proofs.fields.behind.Reads as reads
-use Rattle.sheet.proofs.fields.behind.Lts as lts
 use Rattle.sheet.proofs.fields.find.Reads as find-reads
 
 module _ (c : tie.After-find) where

@@ -9,8 +9,6 @@ use Rattle.sheet.specs.Spelling.{comma, cut}
 use Rattle.sheet.proofs.CutTurns.{cut-found, cut-passed, cut-end}
 use Rattle.sheet.proofs.fields.count.Statement.{statement}
 use Rattle.sheet.proofs.fields.count.Tie as tie
-use Rattle.sheet.proofs.fields.count.Reads as reads
-use Rattle.sheet.proofs.fields.count.Lts as lts
 
 abbrev Inv-loop : tie.InvT-loop
 Inv-loop s commas₀ i₀ commas i = (i ≤ length s) × (commas ≤ i) × (commas + length (cut comma (drop i s)) ≡ length (cut comma s))

@@ -3,7 +3,7 @@ use mathlib.Core.Path.{ap, _∙_}
 use mathlib.Core.List.{List}
 use Prim.Native.Nat.{ℕ}
 use Rattle.sheet.specs.Spelling.{readDecimal}
-use Rattle.sheet.specs.Field.{decimalOf}
+use Rattle.sheet.specs.Spelling.Field.{decimalOf}
 use borrow.Author.Needs.{needs}
 use Rattle.sheet.proofs.fields.decimal_at.Statement.{statement}
 use Rattle.sheet.proofs.fields.decimal_at.Tie as tie

@@ -6,12 +6,11 @@ use mathlib.Core.List.{List, []}
 use Prim.Native.Nat.{ℕ, suc, _+_, _≤_, _-_}
 use lib.ListN.{length, getD, drop, take, length-drop}
 use Rattle.sheet.specs.Spelling.{comma, cut}
-use Rattle.sheet.specs.Field.{First}
+use Rattle.sheet.specs.Spelling.Field.{First}
 use Rattle.sheet.proofs.CutTurns.{first-zero, to-end}
 use Rattle.sheet.proofs.fields.field.Statement.{statement}
 use Rattle.sheet.proofs.fields.field.Tie as tie
 use Rattle.sheet.proofs.fields.field.Reads as reads
-use Rattle.sheet.proofs.fields.field.Lts as lts
 use Rattle.sheet.proofs.fields.behind.Reads as behind-reads
 use Rattle.sheet.proofs.fields.find.Reads as find-reads
 

@@ -4,12 +4,10 @@ use borrow.Author.Needs.{needs}
 use Prim.Native.Nat.{_≤_, _-_}
 use lib.ListN.{length, take}
 use Rattle.sheet.specs.Every.{empty}
-use Rattle.sheet.specs.Cut.{Lacks}
+use Rattle.sheet.specs.Spelling.Cut.{Lacks}
 use Rattle.sheet.proofs.CutTurns.{lacks-turn}
 use Rattle.sheet.proofs.fields.find.Statement.{statement}
 use Rattle.sheet.proofs.fields.find.Tie as tie
-use Rattle.sheet.proofs.fields.find.Reads as reads
-use Rattle.sheet.proofs.fields.find.Lts as lts
 
 abbrev Inv-loop : tie.InvT-loop
 Inv-loop s b i₀ i = (i ≤ length s) × Lacks b (take i s)

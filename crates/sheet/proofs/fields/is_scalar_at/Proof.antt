@@ -2,7 +2,7 @@
 use mathlib.Core.Path.{ap, _∙_}
 use mathlib.Core.List.{List}
 use Prim.Native.Nat.{ℕ}
-use Rattle.sheet.specs.Field.{isNumeral}
+use Rattle.sheet.specs.Spelling.Field.{isNumeral}
 use borrow.Author.Needs.{needs}
 use Rattle.sheet.proofs.fields.is_scalar_at.Statement.{statement}
 use Rattle.sheet.proofs.fields.is_scalar_at.Tie as tie

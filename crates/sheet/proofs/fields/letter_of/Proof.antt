@@ -3,8 +3,6 @@ use Rattle.sheet.proofs.CutTurns.{letter-one, letter-other}
 use borrow.Author.Needs.{needs}
 use Rattle.sheet.proofs.fields.letter_of.Statement.{statement}
 use Rattle.sheet.proofs.fields.letter_of.Tie as tie
-use Rattle.sheet.proofs.fields.letter_of.Reads as reads
-use Rattle.sheet.proofs.fields.letter_of.Lts as lts
 
 shared-slice-read-result : tie.Need-shared-slice-read-result
 shared-slice-read-result c = search needs

@@ -9,7 +9,6 @@ use Rattle.sheet.proofs.FieldTurns.{figures-turn, figures-stop, figures
 use Rattle.sheet.proofs.figures.are_figures.Statement.{statement}
 use Rattle.sheet.proofs.figures.are_figures.Tie as tie
 use Rattle.sheet.proofs.figures.are_figures.Reads as reads
-use Rattle.sheet.proofs.figures.are_figures.Lts as lts
 use Rattle.sheet.proofs.figures.worth_of.Reads as worth-of-reads
 
 abbrev Inv-loop : tie.InvT-loop

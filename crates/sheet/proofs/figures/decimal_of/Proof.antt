@@ -4,7 +4,7 @@ use mathlib.Core.Path.{_≡_, sym, ap, _∙_}
 use mathlib.Core.Bool.{true, false}
 use Prim.Native.Nat.{ℕ, min}
 use borrow.Author.Needs.{needs}
-use Rattle.sheet.specs.Field.{decimalOf, isNumeral}
+use Rattle.sheet.specs.Spelling.Field.{decimalOf, isNumeral}
 use Rattle.sheet.specs.declared.figures.Decimal.the-variants.{Is}
 use Rattle.sheet.proofs.FieldTurns.{numeral-parts, numeral-value}
 use Rattle.sheet.proofs.figures.decimal_of.Statement.{statement}

@@ -5,7 +5,6 @@ use borrow.Author.Needs.{needs}
 use Rattle.sheet.proofs.figures.is_numeral.Statement.{statement}
 use Rattle.sheet.proofs.figures.is_numeral.Tie as tie
 use Rattle.sheet.proofs.figures.is_numeral.Reads as reads
-use Rattle.sheet.proofs.figures.is_numeral.Lts as lts
 use Rattle.sheet.proofs.figures.are_figures.Reads as are-figures-reads
 use Rattle.sheet.proofs.figures.is_padded.Reads as is-padded-reads
 

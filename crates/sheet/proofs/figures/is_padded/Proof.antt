@@ -3,8 +3,6 @@ use Rattle.sheet.proofs.FieldTurns.{padded-short, padded-long}
 use borrow.Author.Needs.{needs}
 use Rattle.sheet.proofs.figures.is_padded.Statement.{statement}
 use Rattle.sheet.proofs.figures.is_padded.Tie as tie
-use Rattle.sheet.proofs.figures.is_padded.Reads as reads
-use Rattle.sheet.proofs.figures.is_padded.Lts as lts
 
 returns : tie.Need-returns
 returns c = padded-short (c .before .args .field .now) (c .if1 .taken)

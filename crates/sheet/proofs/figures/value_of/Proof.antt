@@ -11,7 +11,6 @@ use Rattle.sheet.proofs.FieldTurns.{figure-at, followed-turn, followed-
 use Rattle.sheet.proofs.figures.value_of.Statement.{statement}
 use Rattle.sheet.proofs.figures.value_of.Tie as tie
 use Rattle.sheet.proofs.figures.value_of.Reads as reads
-use Rattle.sheet.proofs.figures.value_of.Lts as lts
 use Rattle.sheet.proofs.figures.worth_of.Reads as worth-of-reads
 
 abbrev Inv-loop : tie.InvT-loop

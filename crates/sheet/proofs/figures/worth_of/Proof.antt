@@ -4,8 +4,6 @@ use borrow.Author.Tests.{lt-leb, le-leb}
 use borrow.Author.Needs.{needs}
 use Rattle.sheet.proofs.figures.worth_of.Statement.{statement}
 use Rattle.sheet.proofs.figures.worth_of.Tie as tie
-use Rattle.sheet.proofs.figures.worth_of.Reads as reads
-use Rattle.sheet.proofs.figures.worth_of.Lts as lts
 
 returns : tie.Need-returns
 returns c = rw (lt-leb 48 (c .before .args .byte) (c .if1 .taken), lt-leb 97 (c .before .args .byte) (omega arith))

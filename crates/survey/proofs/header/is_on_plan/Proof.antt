@@ -3,7 +3,7 @@ use mathlib.Core.Path.{sym, ap, ap₂, _∙_}
 use mathlib.Core.Bool.{Bool, _&&_}
 use lib.Dec.{eqb}
 use Rattle.sheet.specs.Plan.{slots}
-use Rattle.survey.specs.State.{planFor}
+use Rattle.survey.specs.Survey.State.{planFor}
 use borrow.Author.Needs.{needs}
 use Rattle.survey.proofs.header.is_on_plan.Statement.{statement}
 use Rattle.survey.proofs.header.is_on_plan.Tie as tie

@@ -1,6 +1,6 @@
 -- `questions` meets its contract: each return is one line of Judged.
 use mathlib.Core.Path.{ap}
-use Rattle.survey.specs.State.{found}
+use Rattle.survey.specs.Survey.State.{found}
 use Rattle.survey.proofs.Judged.{answer-7, answer-8, answer-9}
 use borrow.Author.Needs.{needs}
 use Rattle.survey.proofs.questions.questions.Statement.{statement}

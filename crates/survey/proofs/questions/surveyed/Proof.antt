@@ -8,7 +8,7 @@ use Rattle.digits.specs.Limits.{card}
 use Rattle.sheet.specs.Spelling.{lines}
 use Rattle.lines.specs.Coded.{Opens, Opened}
 use Rattle.lines.specs.declared.header.Header.{Header}
-use Rattle.survey.specs.Scan.{Answered, Scanned}
+use Rattle.survey.specs.Survey.Scan.{Answered, Scanned}
 use Rattle.survey.proofs.ScanTurns.{no-opening, surveyed-met, surveyed-not}
 use Rattle.survey.proofs.Judged.{too-long, misplaced-line, left-few, whole-sheet}
 use borrow.Author.Needs.{needs}

@@ -8,8 +8,8 @@ use Prim.Native.Nat.{_+_, _≤_, _-_}
 use lib.ListN.{length, drop, drop-of-length-le}
 use Rattle.digits.specs.Limits.{card}
 use Rattle.sheet.specs.Spelling.{lines}
-use Rattle.sheet.specs.Cut.{lines-none}
-use Rattle.survey.specs.State.{Counted, isPlaced, misplacedFrom}
+use Rattle.sheet.specs.Spelling.Cut.{lines-none}
+use Rattle.survey.specs.Survey.State.{Counted, isPlaced, misplacedFrom}
 use Rattle.survey.proofs.PhaseTurns.{out-of-place}
 use Rattle.survey.proofs.ScanTurns.{Going, going-start, going-same, going-turn, going-end, counted-turn}
 use Rattle.survey.proofs.scan.scan_from.Statement.{statement}

@@ -2,7 +2,7 @@
 use mathlib.Core.Path.{sym, ap, ap₂, _∙_}
 use Rattle.sheet.specs.declared.Plan.{Plan}
 use Rattle.sheet.specs.Questions.{turn}
-use Rattle.survey.specs.State.{jointTurn, windowTurn}
+use Rattle.survey.specs.Survey.State.{jointTurn, windowTurn}
 use Rattle.survey.proofs.TableRead.{first-p, first-q, size-of, joint-turns, window-turns}
 use borrow.Author.Needs.{needs}
 use Rattle.survey.proofs.steps.turn_of.Statement.{statement}

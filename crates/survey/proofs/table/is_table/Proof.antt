@@ -3,7 +3,7 @@ use mathlib.Core.Path.{sym, ap, _∙_}
 use lib.ListN.{drop}
 use Rattle.sheet.specs.declared.Plan.{Plan}
 use Rattle.sheet.specs.Plan.{tables}
-use Rattle.survey.specs.State.{isNext}
+use Rattle.survey.specs.Survey.State.{isNext}
 use borrow.Author.Needs.{needs}
 use Rattle.survey.proofs.table.is_table.Statement.{statement}
 use Rattle.survey.proofs.table.is_table.Tie as tie

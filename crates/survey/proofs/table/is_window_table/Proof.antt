@@ -5,7 +5,7 @@ use Prim.Native.Nat.{ℕ, _-_}
 use lib.IntN.{pos}
 use Rattle.sheet.specs.Plan.{point}
 use Rattle.sheet.specs.Questions.{samePoint}
-use Rattle.survey.specs.State.{multipleAt}
+use Rattle.survey.specs.Survey.State.{multipleAt}
 use Rattle.survey.proofs.TableRead.{table-first, table-second, table-none}
 use borrow.Author.Needs.{needs}
 use Rattle.survey.proofs.table.is_window_table.Statement.{statement}

@@ -2,7 +2,7 @@
 use native.Mathlib.Omega.{arith}
 use mathlib.Core.Path.{_≡_}
 use Prim.Native.Nat.{ℕ, zero, suc, _+_, _*_}
-use Rattle.survey.specs.State.{multipleAt}
+use Rattle.survey.specs.Survey.State.{multipleAt}
 use borrow.Author.Needs.{needs}
 use Rattle.survey.proofs.table.multiple.Statement.{statement}
 use Rattle.survey.proofs.table.multiple.Tie as tie

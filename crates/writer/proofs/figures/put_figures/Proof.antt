@@ -1,7 +1,7 @@
 -- `put_figures` meets its contract: no figure, those of a first byte, or two (Hexadecimal).
 use mathlib.Core.Path.{sym, subst}
 use native.Mathlib.Omega.{arith}
-use Rattle.writer.specs.Parts.{Room}
+use Rattle.writer.specs.Body.Parts.{Room}
 use Rattle.writer.proofs.Hexadecimal.{byte-none, byte-first, byte-later}
 use Rattle.writer.proofs.Puts.{put-none, put-append, put-same, room-first, room-second}
 use borrow.Author.Needs.{needs}

@@ -6,7 +6,7 @@ use native.Mathlib.Omega.{arith}
 use lib.ListN.{length}
 use Rattle.writer.proofs.Hexadecimal.{Scanned, scan-start, scan-room, scan-turn, scan-zero, scan-some}
 use Rattle.digits.specs.Scalar.{scalar}
-use Rattle.sheet.specs.NumeralRead.{numeral-some}
+use Rattle.sheet.specs.Numeral.Read.{numeral-some}
 use Rattle.writer.proofs.Puts.{put-length}
 use Rattle.writer.proofs.figures.put_scalar.Statement.{statement}
 use Rattle.writer.proofs.figures.put_scalar.Tie as tie

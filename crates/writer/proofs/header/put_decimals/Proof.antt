@@ -1,5 +1,5 @@
 -- `put_decimals` meets its contract: five decimals, one behind another.
-use Rattle.writer.specs.Parts.{decimalsOf}
+use Rattle.writer.specs.Body.Parts.{decimalsOf}
 use Rattle.writer.proofs.Puts.{put-append, room-first, room-second}
 use borrow.Author.Needs.{needs}
 use Rattle.writer.proofs.header.put_decimals.Statement.{statement}

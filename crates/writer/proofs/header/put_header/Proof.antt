@@ -1,7 +1,7 @@
 -- `put_header` meets its contract: its letters, its decimals and its scalars (SheetBytes).
 use mathlib.Core.Path.{sym, subst}
 use Rattle.digits.specs.Scalar.{scalar}
-use Rattle.writer.specs.Parts.{Room}
+use Rattle.writer.specs.Body.Parts.{Room}
 use Rattle.writer.proofs.SheetBytes.{header-parts}
 use Rattle.writer.proofs.Puts.{put-append, put-same, room-first, room-second}
 use borrow.Author.Needs.{needs}

@@ -1,5 +1,5 @@
 -- `put_letters` meets its contract: four bytes, one behind another.
-use Rattle.writer.specs.Parts.{lettersOf}
+use Rattle.writer.specs.Body.Parts.{lettersOf}
 use Rattle.writer.proofs.Puts.{put-append, room-first, room-second}
 use borrow.Author.Needs.{needs}
 use Rattle.writer.proofs.header.put_letters.Statement.{statement}

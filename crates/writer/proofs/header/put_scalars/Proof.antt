@@ -1,5 +1,5 @@
 -- `put_scalars` meets its contract: two scalars, each with its byte behind it.
-use Rattle.writer.specs.Parts.{scalarsOf}
+use Rattle.writer.specs.Body.Parts.{scalarsOf}
 use Rattle.writer.proofs.Puts.{put-append, room-first, room-second}
 use borrow.Author.Needs.{needs}
 use Rattle.writer.proofs.header.put_scalars.Statement.{statement}

@@ -3,7 +3,7 @@ use mathlib.Core.Path.{refl}
 use mathlib.Core.Bool.{and-eq-true-iff}
 use Rattle.digits.specs.Scalar.{sized}
 use Rattle.digits.specs.Limits.{card}
-use Rattle.writer.specs.Met.{windows-valid}
+use Rattle.writer.specs.Call.Met.{windows-valid}
 use Rattle.writer.proofs.DigitRows.{in-bounds, rows-hold, rows-places}
 use borrow.Author.Needs.{needs}
 use Rattle.writer.proofs.plans.write_i.Statement.{statement}
@@ -45,7 +45,7 @@ write-sheet-requires c κs =
       valid = windows-valid m1 m2 (a .pre .1 .0);
       k-bounded = in-bounds k (λ i. s .before .shared-slice-known .given i .fits) (z .0);
       l-bounded = in-bounds l (λ i. s .shared-slice-known2 .given i .fits) (z .1);
-      held = rows-hold k l _ _ m1 m2 (a .pre .0) (a .pre .1 .0) refl refl (p .row .ensures .1) (q .row2 .ensures .1);
+      held = rows-hold k l _ _ m1 m2 (a .pre .0) (a .pre .1 .0) refl refl (p .row .ensures .1 .0) (q .row2 .ensures .1 .0);
       long =
           rows-places k l m1 m2 (a .pre .0) (a .pre .1 .0) (p .row .ensures .0) (q .row2 .ensures .0)
           (c .before .before .before .before .before .before .before .before .places-of .ensures)

@@ -33,7 +33,7 @@ write-sheet-requires c κs =
       valid = forJ;
       k-bounded = in-bounds k (λ i. s .before .shared-slice-known .given i .fits) (z .0);
       l-bounded = in-bounds l (λ i. s .shared-slice-known2 .given i .fits) (z .1);
-      held = joint-holds k l _ _ (a .pre .0) refl refl (j .joint .ensures .1 .0) (j .joint .ensures .1 .1);
+      held = joint-holds k l _ _ (a .pre .0) refl refl (j .joint .ensures .1 .0) (j .joint .ensures .1 .1 .0);
       long = joint-places k l (a .pre .0) (j .joint .ensures .0) (c .before .before .before .places-of .ensures);
       room = a .pre .1;
     }

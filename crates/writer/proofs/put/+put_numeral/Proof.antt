@@ -3,8 +3,8 @@ use mathlib.Core.Path.{sym, subst}
 use Prim.Native.Nat.{ℕ, _/_, _%_, _<_, _≤_}
 use native.Mathlib.Nat.{mod-lt, div-lt-self}
 use native.Mathlib.Omega.{arith}
-use Rattle.writer.specs.Parts.{Room}
-use Rattle.sheet.specs.NumeralFigures.{numeral-low, numeral-high}
+use Rattle.writer.specs.Body.Parts.{Room}
+use Rattle.sheet.specs.Numeral.Figures.{numeral-low, numeral-high}
 use Rattle.writer.proofs.Puts.{put-append, put-same, put-length, room-first, room-second}
 use borrow.Fn.Kinds.{In}
 use borrow.Fn.PlainCycle.{Measures, is, falls, and}

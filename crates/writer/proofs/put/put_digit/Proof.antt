@@ -2,7 +2,7 @@
 use mathlib.Core.Path.{sym, subst}
 use native.Mathlib.Omega.{arith}
 use borrow.Author.Needs.{needs}
-use Rattle.writer.specs.Parts.{Room}
+use Rattle.writer.specs.Body.Parts.{Room}
 use Rattle.writer.proofs.Puts.{put-append, put-same, room-first, room-second}
 use Rattle.writer.proofs.Signs.{digit-plain, digit-minus}
 use Rattle.writer.proofs.put.put_digit.Statement.{statement}

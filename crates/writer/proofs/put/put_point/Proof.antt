@@ -1,6 +1,6 @@
 -- `put_point` meets its contract: its six puts, one behind another, are the line.
 use borrow.Author.Needs.{needs}
-use Rattle.writer.specs.Parts.{pointLine}
+use Rattle.writer.specs.Body.Parts.{pointLine}
 use Rattle.writer.proofs.Puts.{put-append, room-first, room-second}
 use Rattle.writer.proofs.put.put_point.Statement.{statement}
 use Rattle.writer.proofs.put.put_point.Tie as tie

@@ -1,7 +1,7 @@
 -- `put_all` meets its contract: the steps of the top place, and the places below it (StepBytes).
 use mathlib.Core.Path.{sym, subst}
 use native.Mathlib.Omega.{arith}
-use Rattle.writer.specs.Parts.{Room}
+use Rattle.writer.specs.Body.Parts.{Room}
 use Rattle.writer.proofs.StepBytes.{all-steps}
 use Rattle.writer.proofs.Puts.{put-append, put-same, room-first, room-second}
 use borrow.Author.Needs.{needs}

@@ -1,7 +1,8 @@
 -- `put_joint` meets its contract: no step for a zero column, else one.
 use mathlib.Core.Path.{sym, subst, _∙_}
 use Rattle.sheet.specs.Plan.{point}
-use Rattle.writer.specs.Parts.{Room, signed}
+use Rattle.digits.specs.Byte.{signed}
+use Rattle.writer.specs.Body.Parts.{Room}
 use Rattle.writer.proofs.StepBytes.{no-step, one-step}
 use Rattle.writer.proofs.Puts.{put-none, put-same}
 use borrow.Author.Needs.{needs}

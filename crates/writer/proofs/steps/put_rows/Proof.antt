@@ -4,7 +4,8 @@ use mathlib.Core.List.{List, _++_, append-nil}
 use Prim.Native.Nat.{ℕ}
 use lib.IntN.{pos}
 use Rattle.sheet.specs.Plan.{point}
-use Rattle.writer.specs.Parts.{Room, signed, pointLine}
+use Rattle.digits.specs.Byte.{signed}
+use Rattle.writer.specs.Body.Parts.{Room, pointLine}
 use Rattle.writer.proofs.StepBytes.{rows-rest, rows-first, q-none, q-some}
 use Rattle.writer.proofs.Puts.{put-none, put-append, put-same, room-first, room-second}
 use borrow.Author.Needs.{needs}

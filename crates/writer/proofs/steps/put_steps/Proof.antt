@@ -3,7 +3,8 @@ use mathlib.Core.Path.{sym, ap, subst}
 use Rattle.sheet.specs.declared.Plan.{Plan}
 use Rattle.sheet.specs.Plan.{point}
 use Rattle.written.specs.Written.{placeSteps}
-use Rattle.writer.specs.Parts.{Room, signed, stepsBytes}
+use Rattle.digits.specs.Byte.{signed}
+use Rattle.writer.specs.Body.Parts.{Room, stepsBytes}
 use Rattle.writer.proofs.Puts.{put-same}
 use borrow.Author.Needs.{needs}
 use Rattle.writer.proofs.steps.put_steps.Statement.{statement}

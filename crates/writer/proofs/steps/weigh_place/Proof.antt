@@ -3,8 +3,8 @@ use mathlib.Core.Path.{sym, ap, _∙_}
 use native.Mathlib.Omega.{arith}
 use Rattle.sheet.specs.declared.Plan.{Plan}
 use Rattle.sheet.specs.Plan.{point}
-use Rattle.sheet.specs.Rows.{weigh}
-use Rattle.writer.specs.Parts.{signed}
+use Rattle.sheet.specs.Digits.Accepted.{weigh}
+use Rattle.digits.specs.Byte.{signed}
 use Rattle.writer.proofs.StepBytes.{weighed-none, weighed-one}
 use borrow.Author.Needs.{needs}
 use Rattle.writer.proofs.steps.weigh_place.Statement.{statement}

@@ -1,6 +1,6 @@
 -- `put_multiple` meets its contract, by the row.
 use mathlib.Core.Path.{sym, subst}
-use Rattle.writer.specs.Parts.{Room}
+use Rattle.writer.specs.Body.Parts.{Room}
 use Rattle.writer.proofs.TableBytes.{alone-q, alone-p}
 use Rattle.writer.proofs.Puts.{put-same}
 use borrow.Author.Needs.{needs}

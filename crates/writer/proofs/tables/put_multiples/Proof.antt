@@ -1,7 +1,7 @@
 -- `put_multiples` meets its contract: nothing, or twice the point and the odd multiples (TableBytes).
 use mathlib.Core.Path.{sym, subst}
 use native.Mathlib.Omega.{arith}
-use Rattle.writer.specs.Parts.{Room}
+use Rattle.writer.specs.Body.Parts.{Room}
 use Rattle.writer.proofs.TableBytes.{window-none, window-some}
 use Rattle.writer.proofs.Puts.{put-none, put-append, put-same, room-first, room-second}
 use borrow.Author.Needs.{needs}

@@ -7,7 +7,7 @@ use Rattle.sheet.specs.Line.{table}
 use Rattle.sheet.specs.Plan.{tables}
 use Rattle.sheet.specs.Spelling.{spell}
 use Rattle.written.specs.Valid.{Valid, valid-rows}
-use Rattle.writer.specs.Parts.{Room}
+use Rattle.writer.specs.Body.Parts.{Room}
 use Rattle.writer.proofs.TableBytes.{tables-joint, tables-rows}
 use Rattle.writer.proofs.Puts.{put-append, put-same, room-first, room-second}
 use borrow.Author.Needs.{needs}

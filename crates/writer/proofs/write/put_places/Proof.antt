@@ -5,7 +5,7 @@ use native.Mathlib.Omega.{arith}
 use Rattle.sheet.specs.Sound.{stepLines}
 use Rattle.sheet.specs.Spelling.{spell}
 use Rattle.written.specs.Written.{stepsDown}
-use Rattle.writer.specs.Parts.{Room, columnsBelow}
+use Rattle.writer.specs.Body.Parts.{Room, columnsDown}
 use Rattle.writer.proofs.StepBytes.{no-places}
 use Rattle.writer.proofs.Puts.{put-none, put-same}
 use borrow.Author.Needs.{needs}
@@ -24,7 +24,7 @@ put-all-requires : tie.Need-put-all-requires
 put-all-requires c κs =
     let a = c .before .before .before in
     let e : a .args .places ≡ suc (a .args .places - 1) = omega (arith, c .before .if1 .left) in
-    ((omega (arith, a .pre .0 .0), a .pre .0 .1 (a .args .places - 1) e), subst (Room (a .args .out .now) (a .args .at)) (ap (λ (n : ℕ). spell (stepLines (stepsDown (a .args .plan) (columnsBelow (a .args .p .now) (a .args .q .now) n)))) e) (a .pre .1))
+    ((omega (arith, a .pre .0 .0), a .pre .0 .1 (a .args .places - 1) e), subst (Room (a .args .out .now) (a .args .at)) (ap (λ (n : ℕ). spell (stepLines (stepsDown (a .args .plan) (columnsDown (a .args .p .now) (a .args .q .now) n)))) e) (a .pre .1))
 
 same-length : tie.Need-same-length
 same-length c = search needs
@@ -34,7 +34,7 @@ returns-2 c =
     let n = c .before .before in
     let a = n .before .before .before .before in
     let e : a .args .places ≡ suc (a .args .places - 1) = omega (arith, n .before .before .if1 .left) in
-    put-same (sym (ap (λ (n : ℕ). spell (stepLines (stepsDown (a .args .plan) (columnsBelow (a .args .p .now) (a .args .q .now) n)))) e)) (n .put-all .ensures)
+    put-same (sym (ap (λ (n : ℕ). spell (stepLines (stepsDown (a .args .plan) (columnsDown (a .args .p .now) (a .args .q .now) n)))) e)) (n .put-all .ensures)
 
 pub put-places-spec : {M : Type 1} → statement M
 put-places-spec = tie.close (tie.spec returns sub-put-all put-all-requires same-length returns-2)

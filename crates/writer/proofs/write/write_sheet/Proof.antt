@@ -6,10 +6,10 @@ use native.Mathlib.Nat.{zero-add}
 use native.Mathlib.Omega.{arith}
 use lib.ListN.{length}
 use Rattle.digits.specs.Scalar.{scalar}
-use Rattle.written.specs.Accepted.{few-additions, few-doublings}
+use Rattle.written.specs.Written.Accepted.{few-additions, few-doublings}
 use Rattle.written.specs.Written.{written, writtenAdditions}
 use Rattle.writer.specs.declared.answer.Sheet.the-variants.{Written}
-use Rattle.writer.specs.Parts.{Room}
+use Rattle.writer.specs.Body.Parts.{Room}
 use Rattle.writer.proofs.SheetBytes.{partsOf, few-places, top-full, additions-are, doublings-are, sheet-parts, fits-buffer}
 use Rattle.writer.proofs.Puts.{put-append, put-same, put-front, room-first, room-second}
 use borrow.Author.Needs.{needs}

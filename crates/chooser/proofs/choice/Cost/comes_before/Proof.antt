@@ -1,7 +1,7 @@
 -- `comes_before` meets its contract, number by number.
 use mathlib.Core.Path.{sym, _∙_}
 use mathlib.Core.List.{_∷_, []}
-use Rattle.chooser.specs.Lexicographic.{before-differs, before-agrees, before-last}
+use Rattle.chooser.specs.Lexicographic.Order.{before-differs, before-agrees, before-last}
 use Rattle.chooser.proofs.choice.Cost.comes_before.Statement.{statement}
 use Rattle.chooser.proofs.choice.Cost.comes_before.Tie as tie
 

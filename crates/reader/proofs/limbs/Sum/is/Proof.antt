@@ -6,7 +6,7 @@ use Prim.Native.Nat.{ℕ, _+_, _-_, _*_, _≤_}
 use lib.Dec.{eqb}
 use lib.ListN.{length, drop}
 use Rattle.sheet.specs.Numeral.{followed}
-use Rattle.reader.specs.Limbs.{value, before}
+use Rattle.reader.specs.Body.Limbs.{value, before}
 use Rattle.reader.proofs.LimbTurns.{before-none, before-all, sum-turn, sum-stop, sum-end, sum-start}
 use Rattle.reader.proofs.limbs.Sum.is.Statement.{statement}
 use Rattle.reader.proofs.limbs.Sum.is.Tie as tie

@@ -5,7 +5,7 @@ use native.Mathlib.Omega.{arith}
 use borrow.Author.Needs.{needs}
 use lib.ListN.{drop}
 use Rattle.digits.specs.Scalar.{little}
-use Rattle.recode.specs.Remainder.{remaining}
+use Rattle.recode.specs.Body.Remainder.{remaining}
 use Rattle.recode.proofs.LowBits.{shifted-word, more-bits, word-bound, few, next-word, no-byte}
 use Rattle.recode.proofs.low.Low.filled.Statement.{statement}
 use Rattle.recode.proofs.low.Low.filled.Tie as tie

@@ -2,7 +2,7 @@
 use mathlib.Core.Path.{sym, ap, _∙_}
 use mathlib.Core.Bool.{Bool}
 use Rattle.sheet.specs.Questions.{unless}
-use Rattle.survey.specs.State.{found, earlier}
+use Rattle.survey.specs.Survey.State.{found, earlier}
 use Rattle.survey.specs.declared.fault.Fault.{Fault}
 use borrow.Author.Needs.{needs}
 use Rattle.survey.proofs.fault.Fault.or.Statement.{statement}

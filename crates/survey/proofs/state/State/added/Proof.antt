@@ -5,7 +5,7 @@ use mathlib.Core.List.{[], _∷_}
 use lib.ListN.{drop}
 use Rattle.sheet.specs.Plan.{tables}
 use Rattle.sheet.specs.Line.{add}
-use Rattle.survey.specs.State.{earlier, found}
+use Rattle.survey.specs.Survey.State.{earlier, found}
 use Rattle.survey.proofs.PhaseTurns.{in-steps, differs-steps}
 use Rattle.survey.proofs.StateTurns.{load-add, excess-add, left-add, adds-add, doubles-add}
 use borrow.Author.Needs.{needs}

@@ -4,7 +4,7 @@ use mathlib.Core.Bool.{true}
 use Rattle.sheet.specs.Line.{Line}
 use Rattle.lines.proofs.Was.{was}
 use Rattle.lines.specs.declared.line.Line as line-of
-use Rattle.survey.specs.State.{isPlaced, Follows}
+use Rattle.survey.specs.Survey.State.{isPlaced, Follows}
 use Rattle.survey.specs.declared.state.State.{State}
 use Rattle.survey.proofs.PhaseTurns.{at-table, at-load, at-double, at-add, at-end, at-other}
 use borrow.Author.Needs.{needs}

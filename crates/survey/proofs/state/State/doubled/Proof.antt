@@ -8,7 +8,7 @@ use lib.ListN.{drop}
 use Rattle.sheet.specs.Plan.{point, tables}
 use Rattle.sheet.specs.Line.{double}
 use Rattle.sheet.specs.Questions.{disallowedFrom}
-use Rattle.survey.specs.State.{earlier, found, leftAfter}
+use Rattle.survey.specs.Survey.State.{earlier, found, leftAfter}
 use Rattle.survey.specs.declared.fault.Fault.{Fault}
 use Rattle.survey.proofs.PhaseTurns.{in-steps, differs-steps}
 use Rattle.survey.proofs.StateTurns.{load-double, disallowed-double, left-double, adds-d, doubles-d}

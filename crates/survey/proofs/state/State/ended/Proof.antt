@@ -3,7 +3,7 @@ use native.Mathlib.Omega.{arith}
 use mathlib.Core.Path.{refl, ap}
 use lib.IntN.{pos}
 use Rattle.sheet.specs.Plan.{point}
-use Rattle.survey.specs.State.{earlier, found}
+use Rattle.survey.specs.Survey.State.{earlier, found}
 use Rattle.survey.proofs.PhaseTurns.{end-placed, end-tables, end-few}
 use Rattle.survey.proofs.StateTurns.{disallowed-end, excess-end, left-end, adds-end, doubles-end}
 use borrow.Author.Needs.{needs}

@@ -6,7 +6,7 @@ use lib.ListN.{drop}
 use Rattle.sheet.specs.Plan.{Point, tables}
 use Rattle.sheet.specs.Line.{load}
 use Rattle.sheet.specs.Questions.{differs}
-use Rattle.survey.specs.State.{earlier, found}
+use Rattle.survey.specs.Survey.State.{earlier, found}
 use Rattle.survey.proofs.Taken.{earlier-none}
 use Rattle.survey.proofs.PhaseTurns.{in-tables, differs-tables}
 use Rattle.survey.proofs.StateTurns.{header-load, lines-load, excess-load, left-load, adds-load, doubles-load}

@@ -8,7 +8,7 @@ use Rattle.sheet.specs.declared.Plan.{Plan}
 use Rattle.sheet.specs.Plan.{tables}
 use Rattle.sheet.specs.Line.{plan}
 use Rattle.sheet.specs.Questions.{tableLines, differs, disallowedFrom, unless}
-use Rattle.survey.specs.State.{earlier, planFor, isOnPlan}
+use Rattle.survey.specs.Survey.State.{earlier, planFor, isOnPlan}
 use Rattle.survey.proofs.HeaderTurns.{begin-placed, begin-plan, begin-tables, begin-disallowed, begin-excess, begin-left, begin-additions, begin-doublings}
 use borrow.Author.Needs.{needs}
 use Rattle.survey.proofs.state.State.new.Statement.{statement}

@@ -6,7 +6,7 @@ use lib.ListN.{drop}
 use Rattle.sheet.specs.Plan.{Point, tables}
 use Rattle.sheet.specs.Line.{table}
 use Rattle.sheet.specs.Questions.{tableLines, differs}
-use Rattle.survey.specs.State.{earlier, found}
+use Rattle.survey.specs.Survey.State.{earlier, found}
 use Rattle.survey.proofs.PhaseTurns.{in-tables, differs-tables}
 use Rattle.survey.proofs.StateTurns.{header-table, lines-table, disallowed-table, excess-table, left-table}
 use borrow.Author.Needs.{needs}

@@ -4,7 +4,7 @@ use native.Mathlib.Omega.{arith}
 use mathlib.Core.Option.{Option}
 use Prim.Native.Nat.{ℕ, _+_}
 use Rattle.sheet.specs.Questions.{excessFrom}
-use Rattle.survey.specs.State.{earlier, found}
+use Rattle.survey.specs.Survey.State.{earlier, found}
 use Rattle.survey.proofs.Taken.{double-last, double-more}
 use borrow.Author.Needs.{needs}
 use Rattle.survey.proofs.steps.Doubles.taken.Statement.{statement}

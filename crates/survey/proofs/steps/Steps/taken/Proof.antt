@@ -3,7 +3,7 @@ use mathlib.Core.Path.{ap, _∙_}
 use mathlib.Core.Option.{Option}
 use Prim.Native.Nat.{ℕ, _+_}
 use Rattle.sheet.specs.Questions.{disallowedFrom}
-use Rattle.survey.specs.State.{earlier, found}
+use Rattle.survey.specs.Survey.State.{earlier, found}
 use Rattle.survey.proofs.Taken.{step-loaded, step-added}
 use borrow.Author.Needs.{needs}
 use Rattle.survey.proofs.steps.Steps.taken.Statement.{statement}

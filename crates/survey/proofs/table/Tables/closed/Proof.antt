@@ -4,7 +4,7 @@ use Prim.Native.Nat.{ℕ}
 use lib.Dec.{leb}
 use Rattle.sheet.specs.Plan.{tables}
 use Rattle.sheet.specs.Questions.{unless}
-use Rattle.survey.specs.State.{earlier, found}
+use Rattle.survey.specs.Survey.State.{earlier, found}
 use Rattle.survey.proofs.Taken.{tables-closed}
 use borrow.Author.Needs.{needs}
 use Rattle.survey.proofs.table.Tables.closed.Statement.{statement}

@@ -5,7 +5,7 @@ use Prim.Native.Nat.{ℕ, _+_}
 use lib.ListN.{drop}
 use Rattle.sheet.specs.Plan.{tables}
 use Rattle.sheet.specs.Questions.{differs}
-use Rattle.survey.specs.State.{earlier, found}
+use Rattle.survey.specs.Survey.State.{earlier, found}
 use Rattle.survey.proofs.Taken.{table-taken}
 use borrow.Author.Needs.{needs}
 use Rattle.survey.proofs.table.Tables.taken.Statement.{statement}

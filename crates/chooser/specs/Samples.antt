@@ -1,0 +1,66 @@
+-- Samples of the order between plans, in which each part of it decides: one table of headers of cheapest sheets, by one computed
+-- test.
+use mathlib.Core.Path.{_≡_}
+use mathlib.Core.List.{List, [], _∷_, List·Memᴰ}
+use Prim.Native.Nat.{ℕ}
+use Prim.Native.String.{String}
+use lib.Dec.{T}
+use lib.ListN.{getD}
+use Rattle.digits.specs.Integer.{half}
+use Rattle.digits.specs.Scalar.{bitLength, bitLengthIn}
+use Rattle.digits.specs.Two.{paired}
+use Rattle.forms.specs.Residue.{residue, width}
+use Rattle.forms.specs.Row
+use Rattle.forms.specs.Joint
+use Rattle.forms.specs.Test.{Test, equal, sameList, everyOf}
+use Rattle.sheet.specs.Ascii.{ascii}
+use Rattle.sheet.specs.Numeral.{numeralIn, numeral}
+use Rattle.sheet.specs.Plan.{odds}
+use Rattle.sheet.specs.Questions.{additions, doublings}
+use Rattle.sheet.specs.Sound.{moveLines, sheetLines}
+use Rattle.sheet.specs.Spelling.{lineFeed, join, spell, cut}
+use Rattle.written.specs.Written.{digits, addAll, movesOf, stepsOf, writtenLines, written, writtenAdditions}
+use Rattle.chooser.specs.Cheapest.{interleaved, plans, within, key, cheapestPlan, cheapest}
+use Rattle.chooser.specs.Lexicographic.{before, least}
+
+-- the cheapest sheet, with every definition that it computes by
+unfoldable pub computed : ℕ → ℕ → ℕ → List ℕ
+unfolding Row.row Row.rowIn Row.digit Row.rest residue width bitLength bitLengthIn half Joint.joint Joint.jointIn Joint.column Joint.digit Joint.rest numeralIn numeral odds additions doublings moveLines sheetLines join spell cut paired digits addAll movesOf stepsOf writtenLines written writtenAdditions interleaved plans within key cheapestPlan cheapest before least
+computed k l limit = cheapest k l limit
+
+-- a sample: the first line of the cheapest sheet for k and l under a limit
+pub data Sample : Type 0 where
+  heads : (k l limit : ℕ) (header : String) → Sample
+
+-- what a sample says
+abbrev pub Says : Sample → Type 0
+Says (heads k l limit header) = getD (cut lineFeed (cheapest k l limit)) 0 [] ≡ ascii header
+
+abbrev pub samples : List Sample
+samples =
+    -- fewest additions: a slot saves one of three
+    heads 0x2d 0 1 "S,I,3,1,1,2,5,2d,0"
+    ∷ heads 0 0x2d 1 "S,I,1,3,1,2,5,0,2d"
+    -- then fewest slots: as many additions have windows 3, 1; J; J again, with the smaller m1
+    ∷ heads 3 0 1 "S,I,1,1,0,1,2,3,0"
+    ∷ heads 3 3 2 "S,I,1,1,0,3,2,3,3"
+    ∷ heads 0x2d 0xb 2 "S,I,3,1,1,5,5,2d,b"
+    -- then J before I: windows 3, 3 have as many additions and slots
+    ∷ heads 0x2d 0x2d 2 "S,J,1,1,2,5,6,2d,2d"
+    -- then smaller m1: so have windows 3, 1
+    ∷ heads 0x2d 0x2d 1 "S,I,1,3,1,6,7,2d,2d"
+    -- the same two scalars with no slot
+    ∷ heads 0x2d 0x2d 0 "S,I,1,1,0,7,6,2d,2d"
+    ∷ []
+
+-- the test of a sample
+abbrev sample : (s : Sample) → Test (Says s)
+sample (heads k l limit header) = sameList equal (getD (cut lineFeed (cheapest k l limit)) 0 []) (ascii header)
+
+table : T (everyOf sample samples .test)
+unfolding computed
+table = tt
+
+-- each sample of the table is true
+pub samples-hold : (s : Sample) → List·Memᴰ s samples → Says s
+samples-hold = everyOf sample samples .tells table

@@ -1,0 +1,24 @@
+-- The digit of a byte, and that the byte of a digit is read back as the digit. Assumes nothing.
+use mathlib.Core.Path.{_≡_, ap, _∙_}
+use Prim.Native.Nat.{ℕ, suc, _-_, _%_, _≤_, _<_}
+use native.Mathlib.Omega.{arith}
+use lib.IntN.{ℤ, pos, negsuc, natAbs}
+use borrow.Author.Tests.{lt-ltb, le-ltb}
+use Rattle.digits.specs.Byte.{byteOf, signed}
+
+pub signed-plain : (b : ℕ) → b < 128 → signed b ≡ pos b
+signed-plain b h = rw (lt-ltb b 128 h)
+
+pub signed-minus : (b : ℕ) → 128 ≤ b → signed b ≡ negsuc (255 - b)
+signed-minus b h = rw (le-ltb b 128 h)
+
+-- the byte of a small digit is read back as the digit
+pub signed-byte : (z : ℤ) → natAbs z < 128 → signed (byteOf z) ≡ z
+unfolding byteOf
+signed-byte (pos n) h =
+    let e : n % 256 ≡ n = omega arith in
+    ap signed e ∙ signed-plain n h
+signed-byte (negsuc n) h =
+    let e : n % 256 ≡ n = omega arith in
+    let f : 255 - (256 - suc n) ≡ n = omega arith in
+    ap (λ (m : ℕ). signed (256 - suc m)) e ∙ signed-minus (256 - suc n) (omega arith) ∙ ap negsuc f

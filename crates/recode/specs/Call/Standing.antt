@@ -1,0 +1,161 @@
+-- What stands in the buffers after a row or joint call, whatever was asked: 01's row, or the joint columns. From the promises of forms,
+-- and from what was written being read back.
+use mathlib.Core.Path.{_≡_, refl, sym, ap, ap₂, subst, _∙_}
+use mathlib.Core.Bool.{Bool, true, false, _&&_, cond}
+use mathlib.Core.List.{List}
+use Prim.Native.Nat.{ℕ, _%_, _≤_, max}
+use native.Mathlib.Omega.{arith}
+use lib.Dec.{eqb, leb}
+use lib.ListN.{length, replicate}
+use lib.IntN.{ℤ, pos}
+use borrow.Author.Tests.{eqb-true, leb-true}
+use Rattle.digits.specs.Buffer.{rowBelow, columnsBelow}
+use Rattle.digits.specs.Buffer.Read.{row-read, columns-read}
+use Rattle.digits.specs.Column as Columns
+use Rattle.digits.specs.Limits.{Limits}
+use Rattle.digits.specs.Row.{isWindow, widest, value}
+use Rattle.digits.specs.Scalar.{scalar, sized}
+use Rattle.digits.specs.Scalar.Sized.{both}
+use Rattle.digits.specs.Two.{Column, P, Q, two}
+use Rattle.forms.specs.Joint.{Keeps, Topped, joint}
+use Rattle.forms.specs.Joint.Value.{joint-small}
+use Rattle.forms.specs.Promise.{row-meets, row-digits, row-value, row-top, row-fewest, joint-value, joint-keeps, joint-top, joint-only}
+use Rattle.forms.specs.Row.{row}
+use Rattle.recode.specs.declared.answer.Recoded.{Recoded}
+use Rattle.recode.specs.declared.answer.Recoded.the-variants.{BadScalar, BadWindow, NoRoom, Written}
+use Rattle.recode.specs.Call.{
+  number,
+  placesWritten,
+  roomy,
+  filled,
+  left,
+  rowQuestion,
+  rowAnswer,
+  rowBuffer,
+  RowOf,
+  RowPromised,
+  jointQuestion,
+  jointAnswer,
+  jointBuffer,
+  JointOf,
+  JointPromised,
+}
+
+-- a window is 1 to 31
+pub window-bounds : (m : ℕ) → isWindow m ≡ true → (1 ≤ m) × (m ≤ widest)
+window-bounds m e =
+    let (a, b) = both (eqb (m % 2) 1) (leb m widest) e in (omega (arith, eqb-true (m % 2) 1 a), leb-true m widest b)
+
+row-is : (m c : ℕ) → 1 ≤ m → RowOf m c (row m (pos c))
+row-is m c h =
+    record {
+      rule = row-meets m (pos c) h;
+      digits = row-digits m (pos c) h;
+      reads = row-value m (pos c) h;
+      top = row-top m (pos c) h;
+      fewest = λ es. row-fewest m (pos c) es h;
+    }
+
+row-stands : (m c : ℕ) (buffer : List ℕ) → isWindow m ≡ true → RowOf m c (rowBelow (length (row m (pos c))) (filled (row m (pos c)) buffer))
+row-stands m c buffer e =
+    let (h, l) = window-bounds m e in
+    subst (RowOf m c) (sym (row-read _ (omega arith) (row-digits m (pos c) h))) (row-is m c h)
+
+joint-is : (k l : ℕ) → JointOf k l (joint (pos k) (pos l))
+joint-is k l =
+    record {
+      keeps = joint-keeps (pos k) (pos l);
+      topped = joint-top (pos k) (pos l);
+      reads-k = joint-value (pos k) (pos l) .0;
+      reads-l = joint-value (pos k) (pos l) .1;
+      only = λ ds keeps topped e f. joint-only ds keeps topped ∙ ap₂ joint e f;
+    }
+
+module _ (limits : Limits) (s : List ℕ) (m : ℕ) where
+  -- the number of the answer is that of the first question missed
+  pub row-question : (places : ℕ) → number (rowAnswer limits s m places) ≡ rowQuestion limits s m places
+  unfolding rowAnswer
+  row-question places = go (sized limits s) (isWindow m) (roomy (length s) places)
+    where
+      n : ℕ
+      n = length (row m (pos (scalar s)))
+
+      go : (a b c : Bool) → number (cond a (cond b (cond c (Written n) NoRoom) BadWindow) BadScalar) ≡ cond a (cond b (cond c 0 3) 2) 1
+      go true true true = refl
+      go true true false = refl
+      go true false c = refl
+      go false b c = refl
+
+  -- the answer and the buffer keep the promise
+  pub row-promised : (buffer : List ℕ) → RowPromised m (scalar s) (rowAnswer limits s m (length buffer)) (rowBuffer limits s m buffer)
+  unfolding rowAnswer rowBuffer
+  row-promised buffer = go (sized limits s) (isWindow m) (roomy (length s) (length buffer)) (row-stands m (scalar s) buffer)
+    where
+      ds : List ℤ
+      ds = row m (pos (scalar s))
+
+      answer : Bool → Bool → Bool → Recoded
+      answer a b c = cond a (cond b (cond c (Written (length ds)) NoRoom) BadWindow) BadScalar
+
+      go : (a b c : Bool) → (b ≡ true → RowOf m (scalar s) (rowBelow (length ds) (filled ds buffer)))
+          → RowPromised m (scalar s) (answer a b c) (left (answer a b c) ds buffer)
+      go true true true h = h refl
+      go true true false h = tt
+      go true false c h = tt
+      go false b c h = tt
+
+module _ (limits : Limits) (s t : List ℕ) where
+  pub joint-question : (places places′ : ℕ) → number (jointAnswer limits s t places places′) ≡ jointQuestion limits s t places places′
+  unfolding jointAnswer
+  joint-question places places′ =
+      go (sized limits s) (sized limits t) (roomy (max (length s) (length t)) places) (roomy (max (length s) (length t)) places′)
+    where
+      n : ℕ
+      n = length (joint (pos (scalar s)) (pos (scalar t)))
+
+      go : (a b c d : Bool) → number (cond (a && b) (cond (c && d) (Written n) NoRoom) BadScalar) ≡ cond a (cond b (cond c (cond d 0 3) 3) 1) 1
+      go true true true true = refl
+      go true true true false = refl
+      go true true false d = refl
+      go true false c d = refl
+      go false b c d = refl
+
+  pub joint-promised : (k l : List ℕ)
+      → JointPromised (scalar s) (scalar t) (jointAnswer limits s t (length k) (length l)) (jointBuffer limits P s t k l) (jointBuffer limits Q s t k l)
+  unfolding jointAnswer jointBuffer
+  joint-promised k l =
+      go (sized limits s && sized limits t) (roomy (max (length s) (length t)) (length k) && roomy (max (length s) (length t)) (length l))
+    where
+      cs : List Column
+      cs = joint (pos (scalar s)) (pos (scalar t))
+
+      answer : Bool → Bool → Recoded
+      answer a b = cond a (cond b (Written (length cs)) NoRoom) BadScalar
+
+      go : (a b : Bool)
+          → JointPromised (scalar s) (scalar t) (answer a b) (left (answer a b) (Columns.row two P cs) k) (left (answer a b) (Columns.row two Q cs) l)
+      go true true =
+          subst (JointOf (scalar s) (scalar t)) (sym (columns-read _ _ (joint-small (pos (scalar s)) (pos (scalar t))))) (joint-is (scalar s) (scalar t))
+      go true false = tt
+      go false b = tt
+
+written-length : (a b : Bool) (m n : ℕ) → cond a (cond b (Written m) NoRoom) BadScalar ≡ Written n → n ≡ m
+written-length true true m n e = sym (ap placesWritten e)
+written-length true false m n e = absurd (omega (arith, ap number e))
+written-length false b m n e = absurd (omega (arith, ap number e))
+
+-- columns that keep the rules with a non-zero top are the ones that a joint call writes for their values
+pub joint-only-written : (limits : Limits) (s t k l : List ℕ) (n : ℕ) (cs : List Column) → Keeps cs → Topped cs
+    → value (Columns.row two P cs) ≡ pos (scalar s) → value (Columns.row two Q cs) ≡ pos (scalar t)
+    → jointAnswer limits s t (length k) (length l) ≡ Written n
+    → (n ≡ length cs) × (jointBuffer limits P s t k l ≡ filled (Columns.row two P cs) k) × (jointBuffer limits Q s t k l ≡ filled (Columns.row two Q cs) l)
+unfolding jointAnswer jointBuffer
+joint-only-written limits s t k l n cs keeps topped v w e =
+    let same = joint-only cs keeps topped ∙ ap₂ joint v w in (
+      written-length (sized limits s && sized limits t) rooms (length (joint (pos (scalar s)) (pos (scalar t)))) n e ∙ ap (λ (ds : List Column). length ds) (sym same),
+      ap (λ (a : Recoded). left a (Columns.row two P (joint (pos (scalar s)) (pos (scalar t)))) k) e ∙ ap (λ (ds : List Column). filled (Columns.row two P ds) k) (sym same),
+      ap (λ (a : Recoded). left a (Columns.row two Q (joint (pos (scalar s)) (pos (scalar t)))) l) e ∙ ap (λ (ds : List Column). filled (Columns.row two Q ds) l) (sym same),
+    )
+  where
+    rooms : Bool
+    rooms = roomy (max (length s) (length t)) (length k) && roomy (max (length s) (length t)) (length l)

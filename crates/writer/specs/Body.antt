@@ -1,0 +1,2 @@
+-- What the private contracts of the code speak of.
+pub mod Parts

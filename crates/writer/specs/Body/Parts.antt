@@ -1,0 +1,101 @@
+-- The bytes of the parts of a sheet, which the writer puts one behind another, and what a put leaves.
+use mathlib.Core.Path.{_≡_}
+use mathlib.Core.Bool.{Bool, true, false}
+use mathlib.Core.List.{List, [], _∷_, _++_, map}
+use Prim.Native.Nat.{ℕ, zero, suc, _+_, _-_, _/_, _%_, _^_, _≤_, _<_}
+use lib.IntN.{pos}
+use lib.ListN.{length, getD}
+use lib.Seq.{sets}
+use Rattle.digits.specs.Byte.{signed}
+use Rattle.digits.specs.Limits.{card}
+use Rattle.digits.specs.Two.{Column, blankColumn}
+use Rattle.sheet.specs.declared.Plan.{Plan}
+use Rattle.sheet.specs.Line.{Header, table}
+use Rattle.sheet.specs.Numeral.{figure, numeral}
+use Rattle.sheet.specs.Plan.{Point, point, stored, odds, multiples}
+use Rattle.sheet.specs.Spelling.{comma, lineFeed, digit, kind, spell}
+use Rattle.written.specs.Valid.{Valid}
+use Rattle.written.specs.Written.{digits}
+
+-- the bytes were put at a place, and `next` is the place behind them
+pub record Put (before after : List ℕ) (at next : ℕ) (bytes : List ℕ) : Type 0 where
+  pub behind : next ≡ at + length bytes
+  pub buffer : after ≡ sets before at bytes
+
+-- there is room for bytes at a place
+pub record Room (out : List ℕ) (at : ℕ) (bytes : List ℕ) : Type 0 where
+  pub fits : at + length bytes ≤ length out
+
+-- a line of a letter and a point
+unfoldable pub pointLine : ℕ → Point → List ℕ
+pointLine letter t = letter ∷ comma ∷ (digit (t .p) ++ comma ∷ (digit (t .q) ++ lineFeed ∷ []))
+
+-- the lines of the steps of a place, the first one with the letter, and A lines behind it
+unfoldable pub stepsBytes : ℕ → List Point → List ℕ
+stepsBytes letter [] = []
+stepsBytes letter (t ∷ ts) = pointLine letter t ++ stepsBytes 65 ts
+
+-- the column at a place of two rows of bytes, and the columns below a place, from the highest down
+abbrev pub columnAt : List ℕ → List ℕ → ℕ → Column
+columnAt p q i = point (signed (getD p i 0)) (signed (getD q i 0))
+
+unfoldable pub columnsDown : List ℕ → List ℕ → ℕ → List Column
+columnsDown p q zero = []
+columnsDown p q (suc i) = columnAt p q i ∷ columnsDown p q i
+
+-- n times Q, or n times P
+abbrev pub alone : Bool → ℕ → Point
+alone true n = point (pos 0) (pos n)
+alone false n = point (pos n) (pos 0)
+
+-- the T lines of n odd multiples from d on, and of a window
+abbrev pub oddLines : Bool → ℕ → ℕ → List ℕ
+oddLines q d n = spell (map table (map (alone q) (odds d n)))
+
+unfoldable pub windowBytes : Bool → ℕ → List ℕ
+windowBytes q m = spell (map table (map (alone q) (multiples (stored m))))
+
+-- the figures of a number that is not 0
+abbrev pub figuresOf : ℕ → List ℕ
+figuresOf zero = []
+figuresOf (suc n) = numeral 16 (suc n)
+
+-- the figures of a byte: behind others two of them, and without leading zeros where it is the first
+abbrev pub byteFigures : Bool → ℕ → List ℕ
+byteFigures true b = figuresOf b
+byteFigures false b = figure (b / 16) ∷ figure (b % 16) ∷ []
+
+-- a decimal, and a comma
+abbrev pub field : ℕ → List ℕ
+field n = numeral 10 n ++ comma ∷ []
+
+-- the parts of a header: its letters, its decimals, its scalars
+unfoldable pub lettersOf : List ℕ → List ℕ
+lettersOf kind = 83 ∷ comma ∷ (kind ++ comma ∷ [])
+
+unfoldable pub decimalsOf : ℕ → ℕ → ℕ → ℕ → ℕ → List ℕ
+decimalsOf m1 m2 slots additions doublings =
+    field m1 ++ (field m2 ++ (field slots ++ (field additions ++ field doublings)))
+
+unfoldable pub scalarsOf : ℕ → ℕ → List ℕ
+scalarsOf k l = numeral 16 k ++ comma ∷ (numeral 16 l ++ lineFeed ∷ [])
+
+unfoldable pub headerBytes : Header → List ℕ
+headerBytes h = lettersOf (kind (h .kind)) ++ (decimalsOf (h .m1) (h .m2) (h .slots) (h .additions) (h .doublings) ++ scalarsOf (h .k) (h .l))
+
+-- two rows of bytes hold columns, and zeros above them
+pub record Holds (p q : List ℕ) (cs : List Column) : Type 0 where
+  pub columns : (i : ℕ) → columnAt p q i ≡ getD cs i blankColumn
+
+-- a number that a scalar of 66 bytes can have
+unfoldable pub Bounded : ℕ → Type 0
+Bounded n = n < 2 ^ 528
+
+-- all that the writer needs: a valid plan, scalars of 66 bytes, the rows that hold their digits, and room for a sheet
+pub record Ready (plan : Plan) (k l : ℕ) (p q : List ℕ) (places : ℕ) (out : List ℕ) : Type 0 where
+  pub valid : Valid plan
+  pub k-bounded : Bounded k
+  pub l-bounded : Bounded l
+  pub held : Holds p q (digits plan k l)
+  pub long : places ≡ length (digits plan k l)
+  pub room : card .sheet ≤ length out

@@ -1,0 +1,239 @@
+-- Every written sheet is accepted for its scalars, it is no longer than a sheet may be, and it costs the table and one addition
+-- for each digit but the first: from the laws of its digits (Columns), its steps (Stepping) and its lengths (Lengths).
+use mathlib.Core.Path.{_≡_, refl, sym, ap, ap₂, subst, _∙_}
+use mathlib.Core.Bool.{Bool, true, false, cond}
+use mathlib.Core.List.{List, [], _∷_, _++_, map}
+use Prim.Native.Nat.{ℕ, _+_, _*_, _-_, _^_, _≤_, _<_}
+use native.Mathlib.Nat.{le-refl}
+use native.Mathlib.Omega.{arith}
+use lib.Dec.{leb}
+use lib.IntN.{pos}
+use lib.ListN.{length}
+use Rattle.digits.specs.Scalar.Length.{length-least}
+use Rattle.digits.specs.Limits.{Limits, card}
+use Rattle.digits.specs.Row.{value}
+use Rattle.digits.specs.Two.{Column, P, Q}
+use Rattle.sheet.specs.declared.Plan.{Plan}
+use Rattle.sheet.specs.declared.Plan.the-variants.{J, I}
+use Rattle.sheet.specs.Answer as Answer
+use Rattle.sheet.specs.Answer.{Accepted, sheetSlots, sheetAdditions}
+use Rattle.sheet.specs.Digits.{columns, rowP, rowQ, weight, Reads}
+use Rattle.sheet.specs.Answer.Exactly.{accepted-exactly}
+use Rattle.sheet.specs.Line.{Header, plan, Line, table, end}
+use Rattle.sheet.specs.Plan.{point, slots, stored, tables, tableAdditions, doubled, tableDoublings}
+use Rattle.sheet.specs.Questions.{additions, doublings, result}
+use Rattle.sheet.specs.Digits.Accepted.{columns-value, sheet-columns, sheet-additions, accepted-rows}
+use Rattle.sheet.specs.Sound.{Steps, stepLines, sheetLines, Windows, Allowed, Sound}
+use Rattle.sheet.specs.Sound as Sounds
+use Rattle.sheet.specs.Spelling.Spelled.{ShortHeader, spelled-read}
+use Rattle.sheet.specs.Spelling.{lines}
+use Rattle.sheet.specs.Plan.Cost.{doublings-append, tables-doublings}
+use Rattle.written.specs.Written.{digits, stepsOf, kindOf, first, second, heading, linesWith, writtenLines, writtenAdditions, written}
+use Rattle.written.specs.Written.Columns.{digits-fit, digits-value, digits-top, digits-length}
+use Rattle.written.specs.Valid.{Valid, forJ, forI}
+use Rattle.written.specs.Written.Stepping.{Stepped, steps-of}
+use Rattle.written.specs.Written.Lengths.{sheet-short, sheet-bytes}
+
+-- limits that are enough for scalars of b bits
+pub record Enough (limits : Limits) (b : ℕ) : Type 0 where
+  pub some-figures : 1 ≤ limits .figures
+  pub scalars : 2 ^ b ≤ 16 ^ limits .figures
+  pub doubles : b ≤ limits .doublings
+  -- the counts have at most four figures
+  pub counts : 2 * b + 32 < 10000
+  pub bytes : 22 * b + 2 * limits .figures + 383 ≤ limits .sheet
+
+-- the plan of the header is the plan, and its windows are good ones
+plan-heading : (p : Plan) (a d k l : ℕ) → plan (heading p a d k l) ≡ p
+plan-heading J a d k l = refl
+plan-heading (I m1 m2) a d k l = refl
+
+windows-heading : {p : Plan} → Valid p → Windows (kindOf p) (first p) (second p)
+windows-heading forJ = Sounds.forJ refl refl
+windows-heading (forI v w) = Sounds.forI v w
+
+-- the doublings are those of the table and the steps; the header does not count
+sheet-doublings : (h : Header) (p : Plan) (st : Steps)
+    → doublings (sheetLines h (tables p) st) ≡ tableDoublings p + doublings (stepLines st ++ (end ∷ []))
+unfolding doublings sheetLines
+sheet-doublings h p st =
+    doublings-append (map table (tables p)) (stepLines st ++ (end ∷ []))
+    ∙ ap (λ (n : ℕ). n + doublings (stepLines st ++ (end ∷ []))) (tables-doublings p)
+
+pub few-additions : {p : Plan} → Valid p → tableAdditions p ≤ 30
+few-additions forJ = omega arith
+few-additions (forI v w) = omega (arith, v .within, w .within)
+
+doubled-once : (m : ℕ) → doubled m ≤ 1
+doubled-once m = go (leb 3 m)
+  where
+    go : (b : Bool) → cond b 1 0 ≤ 1
+    go true = omega arith
+    go false = omega arith
+
+pub few-doublings : (p : Plan) → tableDoublings p ≤ 2
+few-doublings J = omega arith
+few-doublings (I m1 m2) = omega (arith, doubled-once m1, doubled-once m2)
+
+small-plan : {p : Plan} → Valid p → (first p < 10000) × (second p < 10000) × (slots p < 10000)
+small-plan forJ = (omega arith, omega arith, omega arith)
+small-plan (forI v w) = (omega (arith, v .within), omega (arith, w .within), omega (arith, v .within, w .within))
+
+module _ (p : Plan) (k l : ℕ) where
+  -- the additions and doublings of the steps
+  stepAdditions : ℕ
+  stepAdditions = additions (stepLines (stepsOf p (digits p k l)) ++ (end ∷ []))
+
+  stepDoublings : ℕ
+  stepDoublings = doublings (stepLines (stepsOf p (digits p k l)) ++ (end ∷ []))
+
+  -- the header of the written lines, and its counts
+  abbrev head : Header
+  head = heading p (additions (linesWith p 0 0 k l)) (doublings (linesWith p 0 0 k l)) k l
+
+  head-additions : additions (linesWith p 0 0 k l) ≡ tableAdditions p + stepAdditions
+  unfolding stepAdditions
+  head-additions = sheet-additions (heading p 0 0 k l) p (stepsOf p (digits p k l))
+
+  head-doublings : doublings (linesWith p 0 0 k l) ≡ tableDoublings p + stepDoublings
+  unfolding stepDoublings
+  head-doublings = sheet-doublings (heading p 0 0 k l) p (stepsOf p (digits p k l))
+
+  -- the additions of the written sheet are those that its header states
+  lines-additions : additions (writtenLines p k l) ≡ additions (linesWith p 0 0 k l)
+  unfolding writtenLines stepAdditions
+  lines-additions = sheet-additions head p (stepsOf p (digits p k l)) ∙ sym head-additions
+
+  lines-doublings : doublings (writtenLines p k l) ≡ doublings (linesWith p 0 0 k l)
+  unfolding writtenLines stepDoublings
+  lines-doublings = sheet-doublings head p (stepsOf p (digits p k l)) ∙ sym head-doublings
+
+  -- the header states the counts of the lines
+  pub written-header : writtenLines p k l ≡ linesWith p (writtenAdditions p k l) (doublings (writtenLines p k l)) k l
+  unfolding writtenLines writtenAdditions
+  written-header = ap₂ (λ (a d : ℕ). linesWith p a d k l) (sym lines-additions) (sym lines-doublings)
+
+  module _ (v : Valid p) where
+    stepped : Stepped p (digits p k l) (stepsOf p (digits p k l))
+    stepped = steps-of p (digits p k l) (digits-fit k l v) (digits-top k l v)
+
+    -- the columns of the written lines are the plan's digits of k and l
+    pub written-columns : columns (writtenLines p k l) ≡ digits p k l
+    unfolding writtenLines
+    written-columns = sheet-columns head (tables p) (stepsOf p (digits p k l)) ∙ stepped .made
+
+    -- the doublings: those of the table, and one for each place below the top
+    pub written-doublings : doublings (writtenLines p k l) ≡ tableDoublings p + (length (digits p k l) - 1)
+    unfolding stepDoublings
+    written-doublings = lines-doublings ∙ head-doublings ∙ ap (λ (n : ℕ). tableDoublings p + n) (stepped .doublings-are)
+
+    -- the lines come to kP + lQ
+    written-result : result (writtenLines p k l) ≡ point (pos k) (pos l)
+    written-result =
+        let c = columns-value (writtenLines p k l) in
+        let d = digits-value k l v in
+        ap₂ point (sym (c P) ∙ ap (λ (cs : List Column). value (rowP cs)) written-columns ∙ d .0)
+        (sym (c Q) ∙ ap (λ (cs : List Column). value (rowQ cs)) written-columns ∙ d .1)
+
+    module _ (limits : Limits) (b : ℕ) (enough : Enough limits b) (k-fits : k < 2 ^ b) (l-fits : l < 2 ^ b) where
+      pub places : length (digits p k l) ≤ b + 1
+      places = digits-length k l v b (length-least k b k-fits) (length-least l b l-fits)
+
+      short : ShortHeader limits head
+      unfolding stepAdditions stepDoublings
+      short =
+          let s = small-plan v in
+          record {
+            short-m1 = s .0;
+            short-m2 = s .1;
+            short-slots = s .2;
+            short-additions = omega (arith, head-additions, few-additions v, stepped .additions-few, places, enough .counts);
+            short-doublings = omega (arith, head-doublings, few-doublings p, stepped .doublings-are, places, enough .counts);
+            short-k = omega (arith, enough .scalars);
+            short-l = omega (arith, enough .scalars);
+          }
+
+      -- the lines of the written sheet are the written lines
+      pub lines-within : lines limits (written p k l) ≡ writtenLines p k l
+      unfolding written writtenLines
+      lines-within =
+          spelled-read limits (enough .some-figures) (writtenLines p k l) (sheet-short limits v head short (stepped .allowed))
+
+      -- the written sheet is no longer than the limits allow
+      pub fits-within : length (written p k l) ≤ limits .sheet
+      unfolding written writtenLines
+      fits-within =
+          omega (
+            arith,
+            sheet-bytes limits v head short (stepped .allowed) (enough .some-figures),
+            stepped .doubles,
+            stepped .additions-few,
+            places,
+            enough .bytes,
+          )
+
+      sound : Sound limits (written p k l) k l
+      unfolding writtenLines
+      sound =
+          record {
+            head = head;
+            steps = stepsOf p (digits p k l);
+            short = fits-within;
+            laid = lines-within ∙ ap (λ (q : Plan). sheetLines head (tables q) (stepsOf p (digits p k l))) (sym (same));
+            windows = windows-heading v;
+            stored = ap slots (sym same);
+            allowed = subst (λ (q : Plan). Allowed q (stepsOf p (digits p k l))) (sym same) (stepped .allowed);
+            low = omega (arith, stepped .doubles, places, enough .doubles);
+            adds = sym lines-additions ∙ ap additions (sym lines-within);
+            doubles = sym lines-doublings ∙ ap doublings (sym lines-within);
+            carries-k = refl;
+            carries-l = refl;
+            reads = ap result lines-within ∙ written-result;
+          }
+        where
+          same : plan head ≡ p
+          same = plan-heading p (additions (linesWith p 0 0 k l)) (doublings (linesWith p 0 0 k l)) k l
+
+      -- the written sheet is accepted for k and l
+      pub accepted-within : Accepted limits (written p k l) k l
+      accepted-within = accepted-exactly limits (written p k l) k l .1 sound
+
+      -- its plan
+      pub plan-within : plan (Answer.heading (lines limits (written p k l))) ≡ p
+      unfolding writtenLines sheetLines
+      plan-within =
+          ap (λ (ls : List Line). plan (Answer.heading ls)) lines-within
+          ∙ plan-heading p (additions (linesWith p 0 0 k l)) (doublings (linesWith p 0 0 k l)) k l
+
+      -- its slots are those of the plan
+      pub slots-within : sheetSlots limits (written p k l) ≡ slots p
+      unfolding sheetSlots
+      slots-within = ap slots plan-within
+
+      -- its additions are counted from its lines
+      pub additions-within : sheetAdditions limits (written p k l) ≡ writtenAdditions p k l
+      unfolding sheetAdditions writtenAdditions
+      additions-within = ap additions lines-within
+
+      -- its additions: those of the table, and one for each step but the load
+      pub cost-within : writtenAdditions p k l ≡ tableAdditions p + (weight p (digits p k l) - 1)
+      cost-within =
+          let r : Reads p (digits p k l) k l (writtenAdditions p k l) =
+          subst (λ (q : Plan). Reads q (digits p k l) k l (writtenAdditions p k l)) plan-within
+          (subst (λ (cs : List Column). Reads (plan (Answer.heading (lines limits (written p k l)))) cs k l (writtenAdditions p k l))
+          (ap columns lines-within ∙ written-columns)
+          (subst (λ (a : ℕ). Reads (plan (Answer.heading (lines limits (written p k l)))) (columns (lines limits (written p k l))) k l a) additions-within
+          (accepted-rows limits (written p k l) k l accepted-within)))
+          in
+          r .costs
+
+-- the card's limits are enough for scalars of 528 bits
+pub card-enough : Enough card 528
+card-enough =
+    record {
+      some-figures = omega arith;
+      scalars = le-refl (2 ^ 528);
+      doubles = omega arith;
+      counts = omega arith;
+      bytes = omega arith;
+    }

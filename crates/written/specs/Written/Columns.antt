@@ -1,0 +1,133 @@
+-- The digits that a plan takes are columns of the plan, they read k and l, the top column is not zero, and there are at most
+-- one more than the longer scalar has bits: from the laws of the row and of the joint form.
+use mathlib.Core.Path.{_≡_, refl, sym, ap, subst, _∙_}
+use mathlib.Core.Logic.{_≢_}
+use mathlib.Core.Bool.{Bool, true, false, not}
+use mathlib.Core.List.{List, [], _∷_}
+use Prim.Native.Nat.{ℕ, zero, suc, _+_, _≤_, _<_, max}
+use native.Mathlib.Omega.{arith}
+use lib.Dec.{T, leb}
+use lib.IntN.{ℤ, pos, _+ℤ_}
+use lib.ListN.{length, getD}
+use mir.Facts.{not-T}
+use borrow.Author.Tests.{leb-true, leb-false}
+use Rattle.digits.specs.Scalar.{bitLength}
+use Rattle.digits.specs.Row.{value, none, Over, empty, more}
+use Rattle.digits.specs.Row as Rows
+use Rattle.digits.specs.Column.{row}
+use Rattle.digits.specs.Two.{Column, P, Q, blank, blank-digit, blankColumn}
+use Rattle.forms.specs.Joint.{Topped}
+use Rattle.forms.specs.Joint.Length.{joint-length}
+use Rattle.forms.specs.Joint.Value.{joint-value, joint-small, joint-top}
+use Rattle.forms.specs.Row as Row
+use Rattle.forms.specs.Row.Length.{row-length}
+use Rattle.forms.specs.Row.Value.{row-digits, row-value, row-top}
+use Rattle.sheet.specs.declared.Plan.{Plan}
+use Rattle.sheet.specs.Digits.{rowP, rowQ, Fits, weight}
+use Rattle.sheet.specs.Plan.{point}
+use Rattle.written.specs.Valid.{Valid, forJ, forI, window-positive}
+use Rattle.written.specs.Written.{digits}
+use Rattle.digits.specs.Two.{paired}
+
+-- ── two rows over the same places ───────────────────────────────────────────────────────────
+
+zeros-value : (v : ℤ) → v ≡ pos 0 → pos 0 +ℤ (v +ℤ v) ≡ pos 0
+zeros-value v e = ap (λ (x : ℤ). pos 0 +ℤ (x +ℤ x)) e
+
+-- each row keeps its value, its digits and its weight
+pub paired-value : (xs ys : List ℤ) → (value (rowP (paired xs ys)) ≡ value xs) × (value (rowQ (paired xs ys)) ≡ value ys)
+unfolding value row paired
+paired-value [] [] = (refl, refl)
+paired-value (a ∷ xs) [] =
+    let r = paired-value xs [] in
+    (ap (λ (v : ℤ). a +ℤ (v +ℤ v)) (r .0), zeros-value (value (rowQ (paired xs []))) (r .1))
+paired-value [] (b ∷ ys) =
+    let r = paired-value [] ys in
+    (zeros-value (value (rowP (paired [] ys))) (r .0), ap (λ (v : ℤ). b +ℤ (v +ℤ v)) (r .1))
+paired-value (a ∷ xs) (b ∷ ys) =
+    let r = paired-value xs ys in
+    (ap (λ (v : ℤ). a +ℤ (v +ℤ v)) (r .0), ap (λ (v : ℤ). b +ℤ (v +ℤ v)) (r .1))
+
+pub paired-weight : (xs ys : List ℤ)
+    → (Rows.weight (rowP (paired xs ys)) ≡ Rows.weight xs) × (Rows.weight (rowQ (paired xs ys)) ≡ Rows.weight ys)
+unfolding Rows.weight row paired
+paired-weight [] [] = (refl, refl)
+paired-weight (a ∷ xs) [] = let r = paired-weight xs [] in (omega (arith, r .0), omega (arith, r .1))
+paired-weight [] (b ∷ ys) = let r = paired-weight [] ys in (omega (arith, r .0), omega (arith, r .1))
+paired-weight (a ∷ xs) (b ∷ ys) = let r = paired-weight xs ys in (omega (arith, r .0), omega (arith, r .1))
+
+paired-over : {m1 m2 : ℕ} (xs ys : List ℤ) → Over m1 xs → Over m2 ys → Over m1 (rowP (paired xs ys)) × Over m2 (rowQ (paired xs ys))
+unfolding row paired
+paired-over [] [] empty empty = (empty, empty)
+paired-over (a ∷ xs) [] (more d r) empty = let t = paired-over xs [] r empty in (more d (t .0), more none (t .1))
+paired-over [] (b ∷ ys) empty (more d r) = let t = paired-over [] ys empty r in (more none (t .0), more d (t .1))
+paired-over (a ∷ xs) (b ∷ ys) (more d r) (more e s) = let t = paired-over xs ys r s in (more d (t .0), more e (t .1))
+
+pub paired-length : (xs ys : List ℤ) → length (paired xs ys) ≡ max (length xs) (length ys)
+unfolding paired
+paired-length [] [] = omega arith
+paired-length (a ∷ xs) [] = omega (arith, paired-length xs [])
+paired-length [] (b ∷ ys) = omega (arith, paired-length [] ys)
+paired-length (a ∷ xs) (b ∷ ys) = omega (arith, paired-length xs ys)
+
+pub paired-at : (xs ys : List ℤ) (i : ℕ) → getD (paired xs ys) i blankColumn ≡ point (getD xs i (pos 0)) (getD ys i (pos 0))
+unfolding paired
+paired-at [] [] i = refl
+paired-at (a ∷ xs) [] zero = refl
+paired-at (a ∷ xs) [] (suc i) = paired-at xs [] i
+paired-at [] (b ∷ ys) zero = refl
+paired-at [] (b ∷ ys) (suc i) = paired-at [] ys i
+paired-at (a ∷ xs) (b ∷ ys) zero = refl
+paired-at (a ∷ xs) (b ∷ ys) (suc i) = paired-at xs ys i
+
+-- the top digit of the longer row is not 0
+paired-top : (xs ys : List ℤ) → ((i : ℕ) → length xs ≡ suc i → getD xs i (pos 0) ≢ pos 0)
+    → ((i : ℕ) → length ys ≡ suc i → getD ys i (pos 0) ≢ pos 0) → Topped (paired xs ys)
+paired-top xs ys f g i e =
+    subst (λ (c : Column). T (not (blank c))) (sym (paired-at xs ys i))
+    (not-T (blank (point (getD xs i (pos 0)) (getD ys i (pos 0)))) (go (leb (length ys) (length xs)) refl))
+  where
+    go : (b : Bool) → leb (length ys) (length xs) ≡ b → T (blank (point (getD xs i (pos 0)) (getD ys i (pos 0)))) → ⊥
+    go true l t =
+        let h : length ys ≤ length xs = leb-true (length ys) (length xs) l in
+        f i (omega (arith, paired-length xs ys)) (blank-digit (point (getD xs i (pos 0)) (getD ys i (pos 0))) t P)
+    go false l t =
+        let h : length xs < length ys = leb-false (length ys) (length xs) l in
+        g i (omega (arith, paired-length xs ys)) (blank-digit (point (getD xs i (pos 0)) (getD ys i (pos 0))) t Q)
+
+-- ── the digits of a plan ────────────────────────────────────────────────────────────────────
+
+module _ (k l : ℕ) where
+  -- they are the plan's
+  pub digits-fit : {p : Plan} → Valid p → Fits p (digits p k l)
+  unfolding digits
+  digits-fit forJ = joint-small (pos k) (pos l)
+  digits-fit (forI {m1} {m2} v w) =
+      paired-over (Row.row m1 (pos k)) (Row.row m2 (pos l)) (row-digits m1 (pos k) (window-positive v)) (row-digits m2 (pos l) (window-positive w))
+
+  -- they read k and l
+  pub digits-value : {p : Plan} → Valid p → (value (rowP (digits p k l)) ≡ pos k) × (value (rowQ (digits p k l)) ≡ pos l)
+  unfolding digits
+  digits-value forJ = joint-value (pos k) (pos l)
+  digits-value (forI {m1} {m2} v w) =
+      let r = paired-value (Row.row m1 (pos k)) (Row.row m2 (pos l)) in
+      (r .0 ∙ row-value m1 (pos k) (window-positive v), r .1 ∙ row-value m2 (pos l) (window-positive w))
+
+  -- the top column is not zero
+  pub digits-top : {p : Plan} → Valid p → Topped (digits p k l)
+  unfolding digits
+  digits-top forJ = joint-top (pos k) (pos l)
+  digits-top (forI {m1} {m2} v w) =
+      paired-top (Row.row m1 (pos k)) (Row.row m2 (pos l)) (row-top m1 (pos k) (window-positive v)) (row-top m2 (pos l) (window-positive w))
+
+  -- scalars below 2^b have at most b + 1 of them
+  pub digits-length : {p : Plan} → Valid p → (b : ℕ) → bitLength k ≤ b → bitLength l ≤ b → length (digits p k l) ≤ b + 1
+  unfolding digits
+  digits-length forJ b h g = omega (arith, joint-length k l)
+  digits-length (forI {m1} {m2} v w) b h g =
+      omega (
+        arith,
+        paired-length (Row.row m1 (pos k)) (Row.row m2 (pos l)),
+        row-length m1 k (window-positive v),
+        row-length m2 l (window-positive w),
+      )
