@@ -1,14 +1,15 @@
 -- Two figures make a byte: the scalar of the bytes is the number that the figures spell.
-use mathlib.Core.Path.{_≡_, refl, sym, ap, subst, _∙_}
-use mathlib.Core.Bool.{Bool, true, false}
+use mathlib.Core.Path.{_≡_, refl, ap, _∙_}
+use mathlib.Core.Bool.{true}
 use mathlib.Core.List.{List, [], _∷_, _++_, reverse-append}
 use Prim.Native.Nat.{ℕ, zero, suc, _+_, _-_, _*_, _≤_, _<_}
 use native.Mathlib.Numerals.{add-one}
 use native.Mathlib.Omega.{arith}
-use lib.Dec.{T, ltb, ltb→lt}
+use lib.Dec.{ltb}
 use lib.ListN.{length, getD, set, take, replicate, length-set, length-append, length-replicate, List·getD-eq-default}
 use lib.Seq.{take-suc, take-suc-set, take-all}
-use mir.Facts.{and-yes}
+use borrow.Author.Tests.{ltb-true}
+use Rattle.digits.specs.Scalar.Sized.{both}
 use Rattle.digits.specs.Scalar.{scalar, little}
 use Rattle.sheet.specs.Numeral.{worth, figures, followed}
 
@@ -83,18 +84,11 @@ own-figure zero at s h = let e : at ≡ at - 0 = omega arith in ap (λ (i : ℕ)
 own-figure (suc pad) zero s h = absurd (omega arith)
 own-figure (suc pad) (suc at) s h = let e : at - pad ≡ suc at - suc pad = omega arith in own-figure pad at s (omega arith) ∙ ap (λ (i : ℕ). getD s i 48) e
 
-is-true : (b : Bool) → T b → b ≡ true
-is-true true t = refl
-is-true false t = absurd t
-
 pub figure-below : (s : List ℕ) (i : ℕ) → figures 16 s ≡ true → i < length s → worth (getD s i 0) < 16
 unfolding figures
 figure-below [] i e h = absurd (omega arith)
-figure-below (c ∷ s) zero e h = ltb→lt (worth c) 16 (and-yes (ltb (worth c) 16) (figures 16 s) (subst T (sym e) tt) .0)
-figure-below (c ∷ s) (suc i) e h = figure-below s i (rest e) (omega arith)
-  where
-    rest : figures 16 (c ∷ s) ≡ true → figures 16 s ≡ true
-    rest q = is-true (figures 16 s) (and-yes (ltb (worth c) 16) (figures 16 s) (subst T (sym q) tt) .1)
+figure-below (c ∷ s) zero e h = ltb-true (worth c) 16 (both (ltb (worth c) 16) (figures 16 s) e .0)
+figure-below (c ∷ s) (suc i) e h = figure-below s i (both (ltb (worth c) 16) (figures 16 s) e .1) (omega arith)
 
 pub either-default : (s : List ℕ) (i : ℕ) → i < length s → getD s i 0 ≡ getD s i 48
 either-default [] i h = absurd (omega arith)

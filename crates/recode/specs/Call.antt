@@ -17,7 +17,7 @@ use Rattle.digits.specs.Column as Columns
 use Rattle.digits.specs.Limits.{Limits}
 use Rattle.digits.specs.Missed.{missed}
 use Rattle.digits.specs.Row.{isWindow, value, weight, Over}
-use Rattle.digits.specs.Scalar.{scalar, sized}
+use Rattle.digits.specs.Scalar.{scalar, sized, bitLength}
 use Rattle.digits.specs.Two.{Column, Two, P, Q, of, two}
 use Rattle.forms.specs.Joint.{Keeps, Topped, joint}
 use Rattle.forms.specs.Row.{RowRule, row}
@@ -72,10 +72,11 @@ rowBuffer limits s m buffer = left (rowAnswer limits s m (length buffer)) (row m
 pub record RowOf (m c : ℕ) (ds : List ℤ) : Type 0 where
   -- it is 01's
   pub rule : RowRule m (pos c) ds
-  -- its digits are the window's, it reads back to c, and its top digit is not 0
+  -- its digits are the window's, it reads back to c, its top digit is not 0, and it has no more places than c's bit length plus one
   pub digits : Over m ds
   pub reads : value ds ≡ pos c
   pub top : (i : ℕ) → length ds ≡ suc i → getD ds i (pos 0) ≢ pos 0
+  pub short : length ds ≤ bitLength c + 1
   -- no row over the same digits has fewer non-zero ones
   pub fewest : (es : List ℤ) → Over m es → value es ≡ pos c → weight ds ≤ weight es
 
@@ -110,13 +111,17 @@ jointBuffer limits r s t buffer buffer′ =
 
 -- what is promised of joint columns cs for k and l
 pub record JointOf (k l : ℕ) (cs : List Column) : Type 0 where
-  -- they keep the joint sparse rules, the top one is not zero, and they read back to k and l
+  -- they keep the joint sparse rules, the top one is not zero, they read back to k and l, and use at most one place more than the longer bit length
   pub keeps : Keeps cs
   pub topped : Topped cs
   pub reads-k : value (Columns.row two P cs) ≡ pos k
   pub reads-l : value (Columns.row two Q cs) ≡ pos l
+  pub short : length cs ≤ max (bitLength k) (bitLength l) + 1
   -- every list that does so is equal to them
   pub only : (ds : List Column) → Keeps ds → Topped ds → value (Columns.row two P ds) ≡ pos k → value (Columns.row two Q ds) ≡ pos l → ds ≡ cs
+  -- no column list over −1, 0, 1 for the same pair has fewer non-zero columns
+  pub fewest : (ds : List Column) → Columns.Small two ds → value (Columns.row two P ds) ≡ pos k → value (Columns.row two Q ds) ≡ pos l
+      → Columns.weight two cs ≤ Columns.weight two ds
 
 -- where n places were written, the columns below n are such ones
 abbrev pub JointPromised : ℕ → ℕ → Recoded → List ℕ → List ℕ → Type 0

@@ -1,14 +1,13 @@
 -- The cheapest plan: it is one of those within the limit, nothing of them comes before it, and it is the only such one.
 use mathlib.Core.Path.{_≡_, refl, ap, ap₂}
-use mathlib.Core.Bool.{false}
+use mathlib.Core.Bool.{Bool, true, false, _&&_}
 use mathlib.Core.List.{List}
-use Prim.Native.Nat.{ℕ, _-_, _%_, _≤_}
+use Prim.Native.Nat.{ℕ, _-_, _≤_}
 use native.Mathlib.Omega.{arith}
-use lib.Dec.{T, eqb, leb, eqb→eq, leb→le}
+use lib.Dec.{T}
 use lib.IntN.{pos}
 use lib.ListN.{getD}
-use mir.Facts.{and-yes}
-use Rattle.digits.specs.Row.{value, isWindow, widest}
+use Rattle.digits.specs.Row.{value, isWindow}
 use Rattle.digits.specs.Two.{Column}
 use Rattle.forms.specs.Promise.{row-fewest, joint-fewest}
 use Rattle.forms.specs.Row.{row}
@@ -16,10 +15,10 @@ use Rattle.sheet.specs.declared.Plan.{Plan}
 use Rattle.sheet.specs.declared.Plan.the-variants.{J, I}
 use Rattle.sheet.specs.Digits.{Fits, weight, rowP, rowQ}
 use Rattle.sheet.specs.Plan.{slots}
-use Rattle.sheet.specs.Sound.{Window}
 use Rattle.written.specs.Valid.{Valid, forJ, forI, window-positive}
 use Rattle.written.specs.Written.Columns.{paired-weight}
 use Rattle.written.specs.Written.{digits, writtenAdditions, first}
+use Rattle.writer.specs.Call.Met.{windows-valid}
 use Rattle.chooser.specs.Lexicographic.{before}
 use Rattle.chooser.specs.Lexicographic.Order.{In, before-first, before-same, least-one, least-least}
 use Rattle.chooser.specs.Cheapest.{cheapestPlan, key, rank, plans, within}
@@ -33,15 +32,13 @@ digits-fewest J k l cs v f e g = joint-fewest (pos k) (pos l) cs f e g
 digits-fewest (I m1 m2) k l cs (forI v w) f e g =
     omega (arith, paired-weight (row m1 (pos k)) (row m2 (pos l)), row-fewest m1 (pos k) (rowP cs) (window-positive v) (f .0) e, row-fewest m2 (pos l) (rowQ cs) (window-positive w) (f .1) g)
 
-window-of : (m : ℕ) → T (isWindow m) → Window m
-window-of m t =
-    let b = and-yes (eqb (m % 2) 1) (leb m widest) t in
-    record { odd = eqb→eq (m % 2) 1 (b .0); within = leb→le m widest (b .1) }
-
 valid-of : (p : Plan) → T (isValid p) → Valid p
 valid-of J t = forJ
-valid-of (I m1 m2) t =
-    let b = and-yes (isWindow m1) (isWindow m2) t in forI (window-of m1 (b .0)) (window-of m2 (b .1))
+valid-of (I m1 m2) t = go (isWindow m1 && isWindow m2) refl t
+  where
+    go : (b : Bool) → (isWindow m1 && isWindow m2) ≡ b → T b → Valid (I m1 m2)
+    go true e u = windows-valid m1 m2 e
+    go false e u = absurd u
 
 -- every valid plan is in the list
 pub valid-in : {p : Plan} → Valid p → In p plans

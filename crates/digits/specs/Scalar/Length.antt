@@ -1,10 +1,10 @@
 -- The laws of the bit length, from its halving: below 2^length, and the least such; and what each halving takes off it.
-use mathlib.Core.Path.{_≡_, refl, ap, _∙_}
+use mathlib.Core.Path.{_≡_, refl, sym, ap, _∙_}
 use Prim.Native.Nat.{ℕ, zero, suc, _+_, _*_, _/_, _^_, _≤_, _<_}
 use native.Mathlib.Omega.{arith}
 use lib.Arith.{bin-ind}
 use lib.Pow.{pow-pos}
-use Rattle.digits.specs.Scalar.{bitLength, bitLengthIn}
+use Rattle.digits.specs.Scalar.{bitLength, bitLengthIn, BitsOf}
 
 -- the bound on the halvings does not matter
 enough : (f g n : ℕ) → n ≤ f → n ≤ g → bitLengthIn f n ≡ bitLengthIn g n
@@ -55,3 +55,13 @@ length-only n (suc j) p q =
 pub length-exact : (n k : ℕ) → n < 2 ^ k → 2 ^ k ≤ 2 * n + 1 → bitLength n ≡ k
 length-exact n zero h l = let e : n ≡ 0 = omega arith in rw e length-zero
 length-exact n (suc k) h l = length-only n k (omega arith) h
+
+-- a bit length has its two parts in one way
+pub bits-only : {n a b c d : ℕ} → BitsOf n a b → BitsOf n c d → (a ≡ c) × (b ≡ d)
+bits-only {n} {a} {b} {c} {d} p q = go b d (p .all ∙ sym (q .all)) (p .most) (q .most) (p .none) (q .none)
+  where
+    go : (b d : ℕ) → 8 * a + b ≡ 8 * c + d → b ≤ 8 → d ≤ 8 → (b ≡ 0 → a ≡ 0) → (d ≡ 0 → c ≡ 0) → (a ≡ c) × (b ≡ d)
+    go zero zero e h l f g = (f refl ∙ sym (g refl), refl)
+    go zero (suc d) e h l f g = absurd (omega (arith, f refl))
+    go (suc b) zero e h l f g = absurd (omega (arith, g refl))
+    go (suc b) (suc d) e h l f g = (omega arith, omega arith)

@@ -3,23 +3,21 @@
 use mathlib.Core.Path.{_≡_, refl, sym, ap, ap₂, subst, _∙_}
 use mathlib.Core.Bool.{Bool, true, false, _&&_, cond}
 use mathlib.Core.List.{List}
-use Prim.Native.Nat.{ℕ, _%_, _≤_, max}
+use Prim.Native.Nat.{ℕ, _≤_, max}
 use native.Mathlib.Omega.{arith}
-use lib.Dec.{eqb, leb}
-use lib.ListN.{length, replicate}
+use lib.ListN.{length}
 use lib.IntN.{ℤ, pos}
-use borrow.Author.Tests.{eqb-true, leb-true}
-use Rattle.digits.specs.Buffer.{rowBelow, columnsBelow}
+use Rattle.digits.specs.Buffer.{rowBelow}
 use Rattle.digits.specs.Buffer.Read.{row-read, columns-read}
 use Rattle.digits.specs.Column as Columns
 use Rattle.digits.specs.Limits.{Limits}
-use Rattle.digits.specs.Row.{isWindow, widest, value}
+use Rattle.digits.specs.Row.{isWindow, value}
+use Rattle.digits.specs.Row.Window.{window-parts}
 use Rattle.digits.specs.Scalar.{scalar, sized}
-use Rattle.digits.specs.Scalar.Sized.{both}
 use Rattle.digits.specs.Two.{Column, P, Q, two}
 use Rattle.forms.specs.Joint.{Keeps, Topped, joint}
 use Rattle.forms.specs.Joint.Value.{joint-small}
-use Rattle.forms.specs.Promise.{row-meets, row-digits, row-value, row-top, row-fewest, joint-value, joint-keeps, joint-top, joint-only}
+use Rattle.forms.specs.Promise.{row-meets, row-digits, row-value, row-top, row-length, row-fewest, joint-value, joint-keeps, joint-top, joint-length, joint-only, joint-fewest}
 use Rattle.forms.specs.Row.{row}
 use Rattle.recode.specs.declared.answer.Recoded.{Recoded}
 use Rattle.recode.specs.declared.answer.Recoded.the-variants.{BadScalar, BadWindow, NoRoom, Written}
@@ -41,11 +39,7 @@ use Rattle.recode.specs.Call.{
   JointPromised,
 }
 
--- a window is 1 to 31
-pub window-bounds : (m : ℕ) → isWindow m ≡ true → (1 ≤ m) × (m ≤ widest)
-window-bounds m e =
-    let (a, b) = both (eqb (m % 2) 1) (leb m widest) e in (omega (arith, eqb-true (m % 2) 1 a), leb-true m widest b)
-
+-- what is promised, of 01's row and of the joint form
 row-is : (m c : ℕ) → 1 ≤ m → RowOf m c (row m (pos c))
 row-is m c h =
     record {
@@ -53,13 +47,15 @@ row-is m c h =
       digits = row-digits m (pos c) h;
       reads = row-value m (pos c) h;
       top = row-top m (pos c) h;
+      short = row-length m c h;
       fewest = λ es. row-fewest m (pos c) es h;
     }
 
 row-stands : (m c : ℕ) (buffer : List ℕ) → isWindow m ≡ true → RowOf m c (rowBelow (length (row m (pos c))) (filled (row m (pos c)) buffer))
 row-stands m c buffer e =
-    let (h, l) = window-bounds m e in
-    subst (RowOf m c) (sym (row-read _ (omega arith) (row-digits m (pos c) h))) (row-is m c h)
+    let (odd, within) = window-parts m e in
+    let some : 1 ≤ m = omega arith in
+    subst (RowOf m c) (sym (row-read _ (omega arith) (row-digits m (pos c) some))) (row-is m c some)
 
 joint-is : (k l : ℕ) → JointOf k l (joint (pos k) (pos l))
 joint-is k l =
@@ -68,7 +64,9 @@ joint-is k l =
       topped = joint-top (pos k) (pos l);
       reads-k = joint-value (pos k) (pos l) .0;
       reads-l = joint-value (pos k) (pos l) .1;
+      short = joint-length k l;
       only = λ ds keeps topped e f. joint-only ds keeps topped ∙ ap₂ joint e f;
+      fewest = λ ds. joint-fewest (pos k) (pos l) ds;
     }
 
 module _ (limits : Limits) (s : List ℕ) (m : ℕ) where

@@ -3,12 +3,13 @@ use mathlib.Core.Path.{_≡_, refl, ap, ap₂, _∙_}
 use mathlib.Core.Bool.{true, _&&_, and-eq-true-iff, false≢true}
 use mathlib.Core.List.{List, [], _∷_}
 use mathlib.Core.Option.{none}
-use Prim.Native.Nat.{ℕ, suc, _%_}
-use lib.Dec.{eqb, leb}
+use Prim.Native.Nat.{ℕ, suc}
+use lib.Dec.{eqb}
 use lib.IntN.{ℤ, pos, negsuc}
-use borrow.Author.Tests.{eq-eqb, eqb-true, le-leb, leb-true}
+use borrow.Author.Tests.{eq-eqb, eqb-true}
 use Rattle.sheet.specs.Plan.{Point, point, slots, tables}
-use Rattle.digits.specs.Row.{widest, isWindow}
+use Rattle.digits.specs.Row.Window.{window-parts, parts-window}
+use Rattle.digits.specs.Row.{isWindow}
 use Rattle.sheet.specs.Line.{Kind, joint, interleaved, Header, plan}
 use Rattle.sheet.specs.Questions.{windowed, tableLines, sameNumber, samePoint, differs, offPlan}
 use Rattle.sheet.specs.Sound.{Steps, nothing, loaded, sheetLines, Window, Windows, forJ, forI}
@@ -53,12 +54,10 @@ sheet-tables h [] (loaded t ms) = refl
 sheet-tables h (t ∷ ts) st = ap (λ (x : List Point). t ∷ x) (sheet-tables h ts st)
 
 pub window-of : (m : ℕ) → isWindow m ≡ true → Window m
-window-of m e =
-    let (a, b) = and-eq-true-iff (eqb (m % 2) 1) (leb m widest) .0 e in
-    record { odd = eqb-true (m % 2) 1 a; within = leb-true m widest b }
+window-of m e = let (a, b) = window-parts m e in record { odd = a; within = b }
 
 pub of-window : {m : ℕ} → Window m → isWindow m ≡ true
-of-window {m} w = rw (eq-eqb (m % 2) 1 (w .odd), le-leb m widest (w .within))
+of-window {m} w = parts-window m (w .odd) (w .within)
 
 windows-of : (k : Kind) (m1 m2 : ℕ) → windowed k m1 m2 ≡ true → Windows k m1 m2
 windows-of joint m1 m2 e =

@@ -7,10 +7,10 @@ use lib.ListN.{length}
 use borrow.Author.Needs.{needs}
 use Rattle.digits.specs.Limits.{card}
 use Rattle.digits.specs.Row.{isWindow}
+use Rattle.digits.specs.Row.Window.{window-parts}
 use Rattle.digits.specs.Scalar.{sized}
 use Rattle.digits.specs.Scalar.Sized.{some-bytes}
 use Rattle.recode.specs.Call.Row.{bad-scalar, bad-window, no-room, written}
-use Rattle.recode.specs.Call.Standing.{window-bounds}
 use Rattle.recode.proofs.rows.row.Statement.{statement}
 use Rattle.recode.proofs.rows.row.Tie as tie
 
@@ -47,7 +47,9 @@ returns c =
 -- so m is 1 to 31
 module _ (c : tie.Else3) where
   bounds : (1 ≤ c .before .before .before .before .before .before .before .args .m) × (c .before .before .before .before .before .before .before .args .m ≤ 31)
-  bounds = window-bounds (c .before .before .before .before .before .before .before .args .m) (window (c .before))
+  bounds =
+      let (odd, within) = window-parts (c .before .before .before .before .before .before .before .args .m) (window (c .before)) in
+      (omega arith, within)
 
 cast-write-row : tie.Need-cast-write-row
 cast-write-row c = omega (arith, bounds c)
