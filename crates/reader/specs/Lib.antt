@@ -1,4 +1,3 @@
--- What the reader's calls answer, and what its numbers stand for.
+-- What the reader's calls answer.
 pub mod Judgement
 pub mod Text
-pub mod Body

@@ -1,7 +1,11 @@
 ghost use mathlib.Core.Path.{_≡_};
 ghost use Rattle.digits.specs.Limits.{card};
-ghost use Rattle.sheet.specs.Answer.{answer};
-ghost use Rattle.survey.specs.Survey.{Clear};
+ghost use Rattle.digits.specs.Two.{P, Q};
+ghost use Rattle.sheet.specs.Spelling.{lines};
+ghost use Rattle.sheet.specs.Questions.{unless, wrong};
+ghost use Rattle.sheet.specs.Answer.{heading, answer};
+ghost use Rattle.survey.specs.Survey.{Clear, ResultIn};
+ghost use Rattle.survey.specs.declared.questions.Survey.the-variants.{Met};
 ghost use Rattle.reader.specs.Judgement.{judgement};
 use survey::Survey;
 
@@ -11,12 +15,23 @@ pub enum Judgement {
     Refused(u32, usize),
 }
 
-// Question 11, of a sheet with so many D lines: is the result (k, l)?
-fn result_question(sheet: &[u8], doubles: usize) -> Judgement
-    requires { ⌜ Clear (now sheet) doubles ⌝ }
+// Whether the result, which the sums hold, is kP + lQ.
+fn is_right(sheet: &[u8], p: &[u64], q: &[u64]) -> bool
+    requires { ⌜ Clear (now sheet) × (ResultIn P (now sheet) Met (now p) × ResultIn Q (now sheet) Met (now q)) ⌝ }
+    ensures { λ r. ⌜ unless r 1 ≡ wrong (heading (lines card (now (sheet .entry)))) (lines card (now (sheet .entry))) ⌝ }
+{
+    if sums::is(p, lines::head_field(sheet, 7)) {
+        return sums::is(q, lines::head_field(sheet, 8));
+    }
+    false
+}
+
+// Question 11: is the result (k, l)?
+fn result_question(sheet: &[u8], p: &[u64], q: &[u64]) -> Judgement
+    requires { ⌜ Clear (now sheet) × (ResultIn P (now sheet) Met (now p) × ResultIn Q (now sheet) Met (now q)) ⌝ }
     ensures { λ r. ⌜ r ≡ judgement (answer card (now (sheet .entry))) ⌝ }
 {
-    if crate::outcome::is_right(sheet, doubles) {
+    if is_right(sheet, p, q) {
         return Judgement::Accepted;
     }
     Judgement::Refused(11, 1)
@@ -26,9 +41,11 @@ fn result_question(sheet: &[u8], doubles: usize) -> Judgement
 pub fn read(sheet: &[u8]) -> Judgement
     ensures { λ r. ⌜ r ≡ judgement (answer card (now (sheet .entry))) ⌝ }
 {
-    let survey = survey::surveyed(sheet);
+    let mut p = sums::empty();
+    let mut q = sums::empty();
+    let survey = survey::surveyed(sheet, &mut p, &mut q);
     match survey {
         Survey::Missed(number, line) => Judgement::Refused(number, line),
-        Survey::Met(doubles) => result_question(sheet, doubles),
+        Survey::Met => result_question(sheet, &p, &q),
     }
 }

@@ -1,8 +1,5 @@
 // The reader: judges any sequence of bytes as a sheet.
-mod accumulator;
 mod judge;
-mod limbs;
-mod outcome;
 mod text;
 
 pub use judge::Judgement;

@@ -3,17 +3,27 @@ use mathlib.Core.Path.{_≡_, refl, ap, _∙_}
 use mathlib.Core.Bool.{Bool, true, false, cond}
 use mathlib.Core.List.{List, _∷_}
 use mathlib.Core.Option.{some}
-use Prim.Native.Nat.{_+_, _-_}
+use Prim.Native.Nat.{ℕ, _+_, _-_, _≤_}
 use native.Mathlib.Omega.{arith}
+use lib.Dec.{leb}
+use borrow.Author.Tests.{leb-true}
 use Rattle.digits.specs.Limits.{card}
 use Rattle.sheet.specs.declared.Plan.{Plan}
-use Rattle.sheet.specs.Plan.{tables, slots}
+use Rattle.sheet.specs.Plan.{tables, slots, tableDoublings}
 use Rattle.sheet.specs.Line.{Line, Header, header}
 use Rattle.sheet.specs.Questions.{unless, tableLines, differs, disallowedFrom, disallowed, excessFrom, excess, additions, doublings, afterHeader, misplaced, offPlan, windowed}
 use Rattle.lines.specs.Coded.{kindOf, codedHeader}
 use Rattle.lines.specs.declared.point.Point as point-of
-use Rattle.survey.specs.Survey.State.{earlier, leftAfter, planFor, isOnPlan}
+use Rattle.survey.specs.Survey.State.{earlier, planFor, isOnPlan, claimedOf, claimed, claimedBy}
 use Rattle.survey.specs.declared.table.Tables as tables-of
+
+-- a claim keeps the limit
+pub claimed-most : (p : Plan) (n : ℕ) → claimedOf p n ≤ 528
+claimed-most p n = go (leb (n - tableDoublings p) 528) refl
+  where
+    go : (b : Bool) → leb (n - tableDoublings p) 528 ≡ b → cond b (n - tableDoublings p) 0 ≤ 528
+    go true e = leb-true (n - tableDoublings p) 528 e
+    go false e = omega arith
 
 module _ (h : Header) (ls : List Line) where
   pub begin-placed : afterHeader 2 ls ≡ misplaced (header h ∷ ls)
@@ -50,10 +60,6 @@ module _ (h : Header) (ls : List Line) where
   unfolding excess excessFrom
   begin-excess = refl
 
-  pub begin-left : leftAfter 528 ls ≡ leftAfter (card .doublings) (header h ∷ ls)
-  unfolding leftAfter
-  begin-left = refl
-
   pub begin-additions : 0 + additions ls ≡ additions (header h ∷ ls)
   unfolding additions
   begin-additions = omega arith
@@ -61,3 +67,6 @@ module _ (h : Header) (ls : List Line) where
   pub begin-doublings : 0 + doublings ls ≡ doublings (header h ∷ ls)
   unfolding doublings
   begin-doublings = omega arith
+
+  pub begin-claimed : claimed (codedHeader h) ≡ claimedBy h
+  begin-claimed = ap (λ (p : Plan). claimedOf p (h .doublings)) begin-plan

@@ -1,23 +1,26 @@
--- The questions in order, from what the first pass found.
+-- The questions in order, from what the pass found.
 use mathlib.Core.Path.{_≡_, sym, ap, ap₂, _∙_}
 use mathlib.Core.Logic.{_≢_}
-use mathlib.Core.List.{List, [], _∷_}
+use mathlib.Core.List.{List}
 use mathlib.Core.Option.{none, some}
-use Prim.Native.Nat.{ℕ, _+_, _-_, _≤_, _<_}
+use Prim.Native.Nat.{ℕ, _≤_, _<_}
 use native.Mathlib.Omega.{arith}
 use lib.Dec.{eqb}
+use lib.IntN.{pos}
 use lib.ListN.{length}
 use borrow.Author.Tests.{eq-eqb, ne-eqb, le-leb, lt-leb}
 use Rattle.digits.specs.Limits.{card}
-use Rattle.sheet.specs.Line.{Header, Line, plan, header, table, load, double, add, end, misspelled}
+use Rattle.sheet.specs.Line.{Header, Line, plan}
 use Rattle.sheet.specs.Spelling.{lines}
 use Rattle.sheet.specs.Answer.{refused, ask, heading, judged, answer}
 use Rattle.sheet.specs.Questions.{tooLong, misplaced, offPlan, disallowed, excess, additions, doublings, miscounted}
 use Rattle.lines.specs.declared.header.Header as header-of
-use Rattle.survey.specs.Survey.State.{found, leftAfter}
+use Rattle.survey.specs.Survey.State.{found, claimedBy}
+use Rattle.survey.specs.Survey.Total.{total}
 use Rattle.survey.specs.Survey.Scan.{Answered, Faultless}
 use Rattle.survey.specs.Survey.{last, LastLeft, JudgedBy, Surveyed}
 use Rattle.survey.specs.declared.state.State.{State}
+use Rattle.survey.proofs.Claim.{claim-true}
 use Rattle.survey.specs.declared.questions.Survey.{Survey}
 use Rattle.survey.specs.declared.questions.Survey.the-variants.{Missed, Met}
 
@@ -36,21 +39,7 @@ out-of-place ls n e = rw e
 pub misplaced-line : (s : List ℕ) (n : ℕ) → length s ≤ 16384 → misplaced (lines card s) ≡ some n → Surveyed s (Missed 6 n)
 misplaced-line s n h e = (short-enough s h ∙ out-of-place (lines card s) n e, omega arith)
 
-pub left-most : (k : ℕ) (ls : List Line) → leftAfter k ls ≤ k
-unfolding leftAfter
-left-most k [] = omega arith
-left-most k (header h ∷ ls) = left-most k ls
-left-most k (table t ∷ ls) = left-most k ls
-left-most k (load t ∷ ls) = left-most k ls
-left-most k (double ∷ ls) = omega (arith, left-most (k - 1) ls)
-left-most k (add t ∷ ls) = left-most k ls
-left-most k (end ∷ ls) = left-most k ls
-left-most k (misspelled ∷ ls) = left-most k ls
-
 module _ {ls : List Line} {u : header-of.Header} {r : State} (a : Answered ls u r) where
-  pub left-few : r .doubles .left ≤ 528
-  left-few = omega (arith, a .left, left-most 528 ls)
-
   head : heading ls ≡ a .h
   head = ap heading (a .is)
 
@@ -101,12 +90,15 @@ module _ {ls : List Line} {u : header-of.Header} {r : State} (a : Answered ls u 
       unfolding miscounted
       met g = rw (rest, adds ∙ eq-eqb (u .additions) (r .additions) e, doubles ∙ eq-eqb (u .doublings) (r .doublings) g)
 
-      pub answer-met : u .doublings ≡ r .doublings → (d : ℕ) → d + r .doubles .left ≡ 528 → LastLeft ls d
-      answer-met g d i =
-          record { sized = a .excess ∙ f .doubles; doubles = omega (arith, i, a .left); answers = met g }
+      pub answer-met : u .doublings ≡ r .doublings → LastLeft ls
+      answer-met g =
+          let counted : a .h .doublings ≡ doublings ls = sym (ap (λ (h : header-of.Header). h .doublings) (a .coded)) ∙ g ∙ sym (a .doublings) in
+          record {
+            claim = λ p. ap (λ (h : Header). total p (claimedBy h) (pos 0) ls) head ∙ claim-true ls (a .h) (a .rest) (a .is) (a .misplaced) (a .offPlan ∙ f .tables) (a .excess ∙ f .doubles) counted p;
+            answers = met g;
+          }
 
 -- a sheet that is short enough
 pub whole-sheet : (s : List ℕ) {u : header-of.Header} {r : State} (out : Survey) → length s ≤ 16384 → Answered (lines card s) u r → JudgedBy (lines card s) out → Surveyed s out
 whole-sheet s (Missed number line) h a j = (short-enough s h ∙ j .0, j .1)
-whole-sheet s (Met doubles) h a j =
-    record { short = h; head = a .h; rest = a .rest; heads = a .is; left = j; answers = short-enough s h ∙ j .answers }
+whole-sheet s Met h a j = record { head = a .h; rest = a .rest; heads = a .is; answers = short-enough s h ∙ j .answers }

@@ -4,5 +4,7 @@ pub mod Taken
 pub mod HeaderTurns
 pub mod PhaseTurns
 pub mod StateTurns
+pub mod Claim
+pub mod TotalTurns
 pub mod ScanTurns
 pub mod Judged

@@ -1,14 +1,16 @@
--- The turns of the first pass: what the state says of the lines to come stays the same from line to line.
+-- The turns of the pass: what the state says of the lines to come stays the same from line to line.
 use mathlib.Core.Path.{_≡_, refl, sym, ap, subst, _∙_}
 use mathlib.Core.List.{List, [], _∷_}
 use mathlib.Core.Option.{none, some}
 use Prim.Native.Nat.{ℕ, _+_, _≤_}
 use native.Mathlib.Omega.{arith}
 use Rattle.digits.specs.Limits.{card}
+use Rattle.sheet.specs.declared.Plan.{Plan}
 use Rattle.sheet.specs.Line.{Header, Line, plan, header, table, load, double, add, end, misspelled}
 use Rattle.sheet.specs.Questions.{disallowedFrom, excessFrom, additions, doublings, misplaced, offPlan, disallowed, excess, afterHeader, afterLoad}
 use Rattle.lines.specs.Coded.{codedHeader, openingOf}
-use Rattle.survey.specs.Survey.State.{found, earlier, misplacedFrom, offPlanFrom, disallowedIn, excessIn, leftAfter, Counted, Follows, Behind, placedIn, differsIn}
+use Rattle.survey.specs.Survey.State.{found, earlier, misplacedFrom, offPlanFrom, disallowedIn, excessIn, Counted, Follows, Behind, placedIn, differsIn}
+use Rattle.survey.specs.Survey.Total.{placesAfter}
 use Rattle.survey.specs.Survey.Scan.{Reached, Scanned, Answered}
 use Rattle.survey.specs.declared.state.State.{State}
 use Rattle.survey.specs.declared.phase.Phase.{Phase}
@@ -17,56 +19,63 @@ use Rattle.survey.specs.declared.scan.Scan as scan
 use Rattle.lines.specs.declared.header.Header as header-of
 use Rattle.survey.proofs.Taken.{earlier-none}
 
--- the state r says of the lines `rest` what s says of ls
-pub record Going (s : State) (ls : List Line) (r : State) (rest : List Line) : Type 0 where
+-- by the plan, the state r says of the lines `rest` what s says of ls
+pub record Going (plan : Plan) (s : State) (ls : List Line) (r : State) (rest : List Line) : Type 0 where
   pub misplaced : misplacedFrom r rest ≡ misplacedFrom s ls
-  pub offPlan : offPlanFrom r rest ≡ offPlanFrom s ls
-  pub disallowed : disallowedIn r rest ≡ disallowedIn s ls
+  pub offPlan : offPlanFrom plan r rest ≡ offPlanFrom plan s ls
+  pub disallowed : disallowedIn plan r rest ≡ disallowedIn plan s ls
   pub excess : excessIn r rest ≡ excessIn s ls
-  pub left : leftAfter (r .doubles .left) rest ≡ leftAfter (s .doubles .left) ls
   pub additions : r .additions + additions rest ≡ s .additions + additions ls
   pub doublings : r .doublings + doublings rest ≡ s .doublings + doublings ls
 
-pub going-start : (s : State) (ls : List Line) → Going s ls s ls
-going-start s ls = record { misplaced = refl; offPlan = refl; disallowed = refl; excess = refl; left = refl; additions = refl; doublings = refl }
+pub going-start : (plan : Plan) (s : State) (ls : List Line) → Going plan s ls s ls
+going-start plan s ls = record { misplaced = refl; offPlan = refl; disallowed = refl; excess = refl; additions = refl; doublings = refl }
 
-module _ {s : State} {ls : List Line} {r : State} {rest : List Line} where
-  pub going-same : {to : List Line} → rest ≡ to → Going s ls r rest → Going s ls r to
-  going-same e g = subst (Going s ls r) e g
+module _ {plan : Plan} {s : State} {ls : List Line} {r : State} {rest : List Line} where
+  pub going-same : {to : List Line} → rest ≡ to → Going plan s ls r rest → Going plan s ls r to
+  going-same e g = subst (Going plan s ls r) e g
 
   -- one line more
-  pub going-turn : {l : Line} {t : State} → Going s ls r (l ∷ rest) → Follows r l t → Going s ls t rest
+  pub going-turn : {l : Line} {t : State} → Going plan s ls r (l ∷ rest) → Follows plan r l t → Going plan s ls t rest
   going-turn g f =
       record {
         misplaced = f .misplaced rest ∙ g .misplaced;
         offPlan = f .offPlan rest ∙ g .offPlan;
         disallowed = f .disallowed rest ∙ g .disallowed;
         excess = f .excess rest ∙ g .excess;
-        left = f .left rest ∙ g .left;
         additions = f .additions rest ∙ g .additions;
         doublings = f .doublings rest ∙ g .doublings;
       }
 
-pub going-end : (s : State) (ls : List Line) (r : State) (out : scan.Scan) → Going s ls r [] → Scanned r [] out → Scanned s ls out
-going-end s ls r (scan.the-variants.Met t) g f =
+pub going-end : (plan : Plan) (s : State) (ls : List Line) (r : State) (out : scan.Scan) → Going plan s ls r [] → Scanned plan r [] out → Scanned plan s ls out
+going-end plan s ls r (scan.the-variants.Met t) g f =
     record {
       misplaced = sym (g .misplaced) ∙ f .misplaced;
       offPlan = sym (g .offPlan) ∙ f .offPlan;
       disallowed = sym (g .disallowed) ∙ f .disallowed;
       excess = sym (g .excess) ∙ f .excess;
-      left = sym (g .left) ∙ f .left;
       additions = sym (g .additions) ∙ f .additions;
       doublings = sym (g .doublings) ∙ f .doublings;
     }
-going-end s ls r (scan.the-variants.Misplaced n) g f = sym (g .misplaced) ∙ f
+going-end plan s ls r (scan.the-variants.Misplaced n) g f = sym (g .misplaced) ∙ f
 
-pub counted-turn : {r t : State} {l : Line} → Counted r → Follows r l t → t .line ≤ 100000 → Counted t
-counted-turn c f h =
+places-most : (n : ℕ) (l : Line) → placesAfter n l ≤ n
+places-most n (header h) = omega arith
+places-most n (table t) = omega arith
+places-most n (load t) = omega arith
+places-most n double = omega arith
+places-most n (add t) = omega arith
+places-most n end = omega arith
+places-most n misspelled = omega arith
+
+pub counted-turn : {plan : Plan} {r t : State} {l : Line} → Counted r → Follows plan r l t → t .line ≤ 100000 → Counted t
+counted-turn {r = r} {l = l} c f h =
     record {
       few = h;
       tables = omega (arith, c .tables, f .tables, f .line);
       additions = omega (arith, c .additions, f .adds, f .line);
       doublings = omega (arith, c .doublings, f .doubles, f .line);
+      places = omega (arith, c .places, f .places, places-most (r .places) l);
     }
 
 -- ── behind the last line ────────────────────────────────────────────────────────────────────
@@ -85,7 +94,7 @@ missing-tables s e = ap (λ (p : Phase). placedIn p (s .line) []) e ∙ missing-
 pub missing-steps : (s : State) → s .phase ≡ Steps → misplacedFrom s [] ≡ some (s .line)
 missing-steps s e = ap (λ (p : Phase). placedIn p (s .line) []) e ∙ missing-load (s .line)
 
-no-disallowed : (p : Rattle.sheet.specs.declared.Plan.Plan) (t n : ℕ) → disallowedFrom p t n [] ≡ none
+no-disallowed : (p : Plan) (t n : ℕ) → disallowedFrom p t n [] ≡ none
 unfolding disallowedFrom
 no-disallowed p t n = refl
 
@@ -93,17 +102,16 @@ no-excess : (k n : ℕ) → excessFrom k n [] ≡ none
 unfolding excessFrom
 no-excess k n = refl
 
-pub reached-end : (s : State) → s .phase ≡ Ended → Reached s [] s
-unfolding additions doublings leftAfter
-reached-end s e =
+pub reached-end : (plan : Plan) (s : State) → s .phase ≡ Ended → Reached plan s [] s
+unfolding additions doublings
+reached-end plan s e =
     record {
       misplaced = ap (λ (p : Phase). placedIn p (s .line) []) e;
       offPlan =
-          ap (λ (p : Phase). earlier (found (s .tables .fault)) (differsIn p (s .line) (lib.ListN.drop (s .tables .count) (Rattle.sheet.specs.Plan.tables (s .plan))) [])) e
+          ap (λ (p : Phase). earlier (found (s .tables .fault)) (differsIn p (s .line) (lib.ListN.drop (s .tables .count) (Rattle.sheet.specs.Plan.tables plan)) [])) e
           ∙ earlier-none (found (s .tables .fault));
-      disallowed = ap (earlier (found (s .steps .fault))) (no-disallowed (s .plan) (s .steps .turn) (s .line)) ∙ earlier-none (found (s .steps .fault));
+      disallowed = ap (earlier (found (s .steps .fault))) (no-disallowed plan (s .steps .turn) (s .line)) ∙ earlier-none (found (s .steps .fault));
       excess = ap (earlier (found (s .doubles .fault))) (no-excess (s .doubles .left) (s .line)) ∙ earlier-none (found (s .doubles .fault));
-      left = refl;
       additions = omega arith;
       doublings = omega arith;
     }
@@ -123,7 +131,7 @@ no-opening (misspelled ∷ ls) e = refl
 
 -- behind the header, the whole sheet
 module _ {h : Header} {ls : List Line} {u : header-of.Header} {s : State} (e : u ≡ codedHeader h) (b : Behind h s) where
-  pub surveyed-met : (all : List Line) (r : State) → all ≡ header h ∷ ls → Reached s ls r → Answered all u r
+  pub surveyed-met : (all : List Line) (r : State) → all ≡ header h ∷ ls → Reached (plan h) s ls r → Answered all u r
   surveyed-met all r i f =
       record {
         h = h;
@@ -134,7 +142,6 @@ module _ {h : Header} {ls : List Line} {u : header-of.Header} {s : State} (e : u
         offPlan = ap (offPlan h) i ∙ sym (b .offPlan ls) ∙ f .offPlan;
         disallowed = ap (disallowed (plan h)) i ∙ sym (b .disallowed ls) ∙ f .disallowed;
         excess = ap (excess card) i ∙ sym (b .excess ls) ∙ f .excess;
-        left = ap (leftAfter (card .doublings)) i ∙ sym (b .left ls) ∙ f .left;
         additions = ap additions i ∙ sym (b .additions ls) ∙ f .additions;
         doublings = ap doublings i ∙ sym (b .doublings ls) ∙ f .doublings;
       }

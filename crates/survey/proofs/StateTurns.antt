@@ -2,7 +2,7 @@
 use mathlib.Core.Path.{_≡_, refl}
 use mathlib.Core.Bool.{true, false}
 use mathlib.Core.List.{List, [], _∷_}
-use Prim.Native.Nat.{ℕ, _+_, _-_}
+use Prim.Native.Nat.{ℕ, _+_}
 use native.Mathlib.Numerals.{add-one}
 use native.Mathlib.Omega.{arith}
 use Rattle.sheet.specs.declared.Plan.{Plan}
@@ -10,7 +10,6 @@ use Rattle.sheet.specs.Plan.{Point}
 use Rattle.sheet.specs.Line.{Line, table, load, double, add, end}
 use Rattle.sheet.specs.Questions.{isDouble, tableLines, disallowedFrom, excessFrom, additions, doublings, afterHeader, afterLoad}
 use Rattle.lines.specs.declared.point.Point as point-of
-use Rattle.survey.specs.Survey.State.{leftAfter}
 use Rattle.survey.specs.declared.table.Tables as tables-of
 
 module _ (n : ℕ) (ls : List Line) (x : Point) where
@@ -67,26 +66,6 @@ module _ (n : ℕ) (ls : List Line) (x : Point) where
     pub excess-end : excessFrom left (n + 1) ls ≡ excessFrom left n (end ∷ ls)
     unfolding excessFrom
     excess-end = rw add-one
-
-    pub left-table : leftAfter left ls ≡ leftAfter left (table x ∷ ls)
-    unfolding leftAfter
-    left-table = refl
-
-    pub left-load : leftAfter left ls ≡ leftAfter left (load x ∷ ls)
-    unfolding leftAfter
-    left-load = refl
-
-    pub left-double : leftAfter (left - 1) ls ≡ leftAfter left (double ∷ ls)
-    unfolding leftAfter
-    left-double = refl
-
-    pub left-add : leftAfter left ls ≡ leftAfter left (add x ∷ ls)
-    unfolding leftAfter
-    left-add = refl
-
-    pub left-end : leftAfter left ls ≡ leftAfter left (end ∷ ls)
-    unfolding leftAfter
-    left-end = refl
 
   -- the counts, with a so far
   module _ (a : ℕ) where

@@ -1,9 +1,12 @@
 ghost use mathlib.Core.Path.{_≡_};
 ghost use Rattle.sheet.specs.Questions.{windowed};
 ghost use Rattle.lines.specs.Coded.{kindOf};
-ghost use Rattle.survey.specs.Survey.State.{planFor, isOnPlan};
+ghost use Rattle.survey.specs.Survey.State.{planFor, isOnPlan, claimed};
 use lines::Header;
 use sheet::Plan;
+
+// The D lines of a sheet at most.
+pub const MOST_DOUBLES: usize = 528;
 
 // The plan that a header names.
 pub fn plan_of(header: Header) -> Plan
@@ -37,4 +40,18 @@ pub fn is_on_plan(header: Header) -> bool
         return header.slots == plan.slots();
     }
     false
+}
+
+// The D lines that a header claims: its doublings less those of the plan's table; 0 where that is negative or too many.
+pub fn claimed(header: Header) -> usize
+    ensures { λ r. ⌜ r ≡ claimed header ⌝ }
+{
+    let plan = plan_of(header);
+    let tables = plan.table_doublings();
+    let doublings = header.doublings;
+    if doublings < tables {
+        return 0;
+    }
+    let places = (doublings - tables) as usize;
+    if places <= MOST_DOUBLES { places } else { 0 }
 }

@@ -1,4 +1,4 @@
-// The first of the reader's two passes over a sheet: questions 5 to 10.
+// The pass over a sheet: questions 5 to 10, and what its steps come to.
 mod fault;
 mod header;
 mod phase;
@@ -7,6 +7,7 @@ mod scan;
 mod state;
 mod steps;
 mod table;
+mod totals;
 
 pub use questions::Survey;
 pub use questions::surveyed;

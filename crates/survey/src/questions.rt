@@ -1,9 +1,10 @@
 ghost use mathlib.Core.List.{List};
-ghost use Prim.Native.Nat.{_≤_};
-ghost use Rattle.digits.specs.Limits.{card};
+ghost use lib.IntN.{pos};
+ghost use Rattle.digits.specs.Two.{P, Q};
 ghost use Rattle.sheet.specs.Line as meant;
 ghost use Rattle.survey.specs.Survey.Scan.{Answered, Faultless};
-ghost use Rattle.survey.specs.Survey.{JudgedBy, Surveyed};
+ghost use Rattle.sums.specs.Sum.{Holds};
+ghost use Rattle.survey.specs.Survey.{JudgedBy, Surveyed, ResultIn};
 use crate::fault::Fault;
 use crate::scan::Scan;
 use crate::state::State;
@@ -13,15 +14,14 @@ use lines::Opening;
 // The bytes of a sheet at most.
 const MOST_BYTES: usize = 16384;
 
-// The first question that a sheet misses, and the line; or how many D lines it has.
+// The first question that a sheet misses, and the line; or none of these.
 pub enum Survey {
     Missed(u32, usize),
-    Met(usize),
+    Met,
 }
 
 // Question 10: are both counts true?
 fn counts(header: Header, state: State) -> Survey
-    requires { ⌜ state .doubles .left ≤ card .doublings ⌝ }
     ensures { λ r. ⌜ ((ls : List meant.Line) → Answered ls header state → Faultless state → JudgedBy ls r) ⌝ }
 {
     let additions = header.additions as usize;
@@ -34,12 +34,11 @@ fn counts(header: Header, state: State) -> Survey
     if doublings != counted_doublings {
         return Survey::Missed(10, 1);
     }
-    Survey::Met(state.doubles_taken())
+    Survey::Met
 }
 
 // Questions 7 to 10, of a sheet whose lines are all in place.
 fn questions(header: Header, state: State) -> Survey
-    requires { ⌜ state .doubles .left ≤ card .doublings ⌝ }
     ensures { λ r. ⌜ ((ls : List meant.Line) → Answered ls header state → JudgedBy ls r) ⌝ }
 {
     let tables = state.tables;
@@ -60,9 +59,12 @@ fn questions(header: Header, state: State) -> Survey
     }
 }
 
-// Questions 5 to 10.
-pub fn surveyed(sheet: &[u8]) -> Survey
+// Questions 5 to 10. The sums are lent empty; where all questions are met, they hold the result.
+pub fn surveyed(sheet: &[u8], p: &mut [u64], q: &mut [u64]) -> Survey
+    requires { ⌜ Holds 0 (now p) (pos 0) × Holds 0 (now q) (pos 0) ⌝ }
     ensures { λ r. ⌜ Surveyed (now (sheet .entry)) r ⌝ }
+    ensures { λ r. ⌜ ResultIn P (now (sheet .entry)) r (now (p .exit)) ⌝ }
+    ensures { λ r. ⌜ ResultIn Q (now (sheet .entry)) r (now (q .exit)) ⌝ }
 {
     if MOST_BYTES < sheet.len() {
         return Survey::Missed(5, 0);
@@ -71,7 +73,8 @@ pub fn surveyed(sheet: &[u8]) -> Survey
     let Opening::Is(header, next) = opening else {
         return Survey::Missed(6, 1);
     };
-    let scan = crate::scan::scan_from(sheet, next, State::new(header));
+    let plan = crate::header::plan_of(header);
+    let scan = crate::scan::scan_from(sheet, next, plan, State::new(header), p, q);
     match scan {
         Scan::Met(state) => questions(header, state),
         Scan::Misplaced(line) => Survey::Missed(6, line as usize),

@@ -1,12 +1,17 @@
 ghost use mathlib.Core.List.{[]};
 ghost use Prim.Native.Nat.{_+_, _≤_};
+ghost use lib.IntN.{pos};
 ghost use lib.ListN.{length, drop};
 ghost use Rattle.digits.specs.Limits.{card};
+ghost use Rattle.digits.specs.Two.{P, Q};
+ghost use Rattle.sheet.specs.declared.Plan.{Plan};
 ghost use Rattle.sheet.specs.Spelling.{lines};
+ghost use Rattle.sums.specs.Sum.{Holds};
 ghost use Rattle.survey.specs.Survey.State.{Counted};
-ghost use Rattle.survey.specs.Survey.Scan.{Scanned};
+ghost use Rattle.survey.specs.Survey.Scan.{Scanned, Summed};
 use crate::phase::Phase;
 use crate::state::State;
+use sheet::Plan;
 
 // The state at the end of the lines, or the first line out of place.
 pub enum Scan {
@@ -16,7 +21,7 @@ pub enum Scan {
 
 // The state behind the last line: a line may be missing.
 fn finished(state: State) -> Scan
-    ensures { λ r. ⌜ Scanned state [] r ⌝ }
+    ensures { λ r. ⌜ ((plan : Plan) → Scanned plan state [] r) ⌝ }
 {
     let phase = state.phase;
     match phase {
@@ -26,10 +31,20 @@ fn finished(state: State) -> Scan
     }
 }
 
-// The lines from a place on.
-pub fn scan_from(sheet: &[u8], from: usize, start: State) -> Scan
+// The lines from a place on. Each digit is added to its sum as the line is taken.
+pub fn scan_from(
+    sheet: &[u8],
+    from: usize,
+    plan: Plan,
+    start: State,
+    p: &mut [u64],
+    q: &mut [u64],
+) -> Scan
     requires { ⌜ (length (now sheet) ≤ card .sheet) × ((from ≤ length (now sheet)) × (Counted start × (start .line ≤ from + 1))) ⌝ }
-    ensures { λ r. ⌜ Scanned start (lines card (drop from (now (sheet .entry)))) r ⌝ }
+    requires { ⌜ Holds 0 (now p) (pos 0) × Holds 0 (now q) (pos 0) ⌝ }
+    ensures { λ r. ⌜ Scanned plan start (lines card (drop from (now (sheet .entry)))) r ⌝ }
+    ensures { λ r. ⌜ Summed P start (lines card (drop from (now (sheet .entry)))) r (now (p .exit)) ⌝ }
+    ensures { λ r. ⌜ Summed Q start (lines card (drop from (now (sheet .entry)))) r (now (q .exit)) ⌝ }
 {
     let mut at = from;
     let mut state = start;
@@ -38,7 +53,8 @@ pub fn scan_from(sheet: &[u8], from: usize, start: State) -> Scan
         let line = taken.line;
         let phase = state.phase;
         if crate::phase::is_placed(phase, line) {
-            let next = state.after(line);
+            crate::totals::add_line(p, q, state.places, line);
+            let next = state.after(plan, line);
             state = next;
             at = taken.next;
             continue;

@@ -1,8 +1,8 @@
 ghost use mathlib.Core.Path.{_≡_};
 ghost use mathlib.Core.Bool.{true};
 ghost use mathlib.Core.Logic.{_≢_};
-ghost use Prim.Native.Nat.{_+_, _≤_};
-ghost use Rattle.digits.specs.Limits.{card};
+ghost use Prim.Native.Nat.{_-_};
+ghost use Rattle.sheet.specs.declared.Plan.{Plan};
 ghost use Rattle.sheet.specs.Line as meant;
 ghost use Rattle.sheet.specs.Plan as plans;
 ghost use Rattle.lines.specs.Coded.{codedPoint, coded};
@@ -17,17 +17,13 @@ use lines::Line;
 use lines::Point;
 use sheet::Plan;
 
-// The D lines of a sheet at most.
-const MOST_DOUBLES: usize = 528;
-
 // The additions that an L and an A count for.
 const LOAD_ADDITIONS: usize = 0;
 
 const ADD_ADDITIONS: usize = 1;
 
-// What the lines so far say to each question.
+// What the lines so far say to each question, and how many D lines are to come by the header.
 pub struct State {
-    pub plan: Plan,
     pub line: u32,
     pub phase: Phase,
     pub tables: Tables,
@@ -35,6 +31,7 @@ pub struct State {
     pub doubles: Doubles,
     pub additions: usize,
     pub doublings: usize,
+    pub places: usize,
 }
 
 // The T lines at E: where there was no step, it is the line after them.
@@ -48,16 +45,24 @@ fn tables_at_end(phase: Phase, tables: Tables, plan: Plan, line: u32) -> Tables
     }
 }
 
+// One less, or 0.
+fn less_one(n: usize) -> usize
+    ensures { λ r. ⌜ r ≡ n - 1 ⌝ }
+{
+    if n == 0 {
+        return 0;
+    }
+    n - 1
+}
+
 impl State {
     // Behind the header.
     pub fn new(header: Header) -> State
         ensures { λ r. ⌜ Begins header r ⌝ }
     {
-        let plan = crate::header::plan_of(header);
         let met = crate::header::is_on_plan(header);
         let fault = Fault::Nowhere.or(met, 1);
         State {
-            plan: plan,
             line: 2,
             phase: Phase::Tables,
             tables: Tables {
@@ -69,20 +74,20 @@ impl State {
                 fault: Fault::Nowhere,
             },
             doubles: Doubles {
-                left: MOST_DOUBLES,
+                left: crate::header::MOST_DOUBLES,
                 fault: Fault::Nowhere,
             },
             additions: 0,
             doublings: 0,
+            places: crate::header::claimed(header),
         }
     }
 
     // T: the table is filled with a point.
-    fn tabled(self, t: Point) -> State
+    fn tabled(self, plan: Plan, t: Point) -> State
         requires { ⌜ Counted self × (self .phase ≡ Phase.Tables) ⌝ }
-        ensures { λ r. ⌜ ((x : plans.Point) → t ≡ codedPoint x → Follows self (meant.table x) r) ⌝ }
+        ensures { λ r. ⌜ ((x : plans.Point) → t ≡ codedPoint x → Follows plan self (meant.table x) r) ⌝ }
     {
-        let plan = self.plan;
         let line = self.line;
         let tables = self.tables;
         let next = tables.taken(plan, t, line);
@@ -90,7 +95,6 @@ impl State {
         let steps = self.steps;
         let doubles = self.doubles;
         State {
-            plan: plan,
             line: line + 1,
             phase: Phase::Tables,
             tables: next,
@@ -98,15 +102,15 @@ impl State {
             doubles: doubles,
             additions: self.additions + counts.additions,
             doublings: self.doublings + counts.doublings,
+            places: self.places,
         }
     }
 
     // L: the accumulator is loaded, at the top place.
-    fn loaded(self, t: Point) -> State
+    fn loaded(self, plan: Plan, t: Point) -> State
         requires { ⌜ Counted self × (self .phase ≡ Phase.Tables) ⌝ }
-        ensures { λ r. ⌜ ((x : plans.Point) → t ≡ codedPoint x → Follows self (meant.load x) r) ⌝ }
+        ensures { λ r. ⌜ ((x : plans.Point) → t ≡ codedPoint x → Follows plan self (meant.load x) r) ⌝ }
     {
-        let plan = self.plan;
         let line = self.line;
         let tables = self.tables;
         let closed = tables.closed(plan, line);
@@ -114,7 +118,6 @@ impl State {
         let next = steps.taken(plan, t, line);
         let doubles = self.doubles;
         State {
-            plan: plan,
             line: line + 1,
             phase: Phase::Steps,
             tables: closed,
@@ -122,15 +125,15 @@ impl State {
             doubles: doubles,
             additions: self.additions + LOAD_ADDITIONS,
             doublings: self.doublings,
+            places: self.places,
         }
     }
 
     // D: the accumulator doubles and the next lower place begins.
     fn doubled(self) -> State
         requires { ⌜ Counted self × (self .phase ≡ Phase.Steps) ⌝ }
-        ensures { λ r. ⌜ Follows self meant.double r ⌝ }
+        ensures { λ r. ⌜ ((plan : Plan) → Follows plan self meant.double r) ⌝ }
     {
-        let plan = self.plan;
         let line = self.line;
         let tables = self.tables;
         let steps = self.steps;
@@ -138,7 +141,6 @@ impl State {
         let doubles = self.doubles;
         let next = doubles.taken(line);
         State {
-            plan: plan,
             line: line + 1,
             phase: Phase::Steps,
             tables: tables,
@@ -146,22 +148,21 @@ impl State {
             doubles: next,
             additions: self.additions,
             doublings: self.doublings + 1,
+            places: less_one(self.places),
         }
     }
 
     // A: a point is added.
-    fn added(self, t: Point) -> State
+    fn added(self, plan: Plan, t: Point) -> State
         requires { ⌜ Counted self × (self .phase ≡ Phase.Steps) ⌝ }
-        ensures { λ r. ⌜ ((x : plans.Point) → t ≡ codedPoint x → Follows self (meant.add x) r) ⌝ }
+        ensures { λ r. ⌜ ((x : plans.Point) → t ≡ codedPoint x → Follows plan self (meant.add x) r) ⌝ }
     {
-        let plan = self.plan;
         let line = self.line;
         let tables = self.tables;
         let steps = self.steps;
         let next = steps.taken(plan, t, line);
         let doubles = self.doubles;
         State {
-            plan: plan,
             line: line + 1,
             phase: Phase::Steps,
             tables: tables,
@@ -169,15 +170,15 @@ impl State {
             doubles: doubles,
             additions: self.additions + ADD_ADDITIONS,
             doublings: self.doublings,
+            places: self.places,
         }
     }
 
     // E, behind the T lines or behind the steps.
-    fn ended(self) -> State
+    fn ended(self, plan: Plan) -> State
         requires { ⌜ Counted self × (self .phase ≢ Phase.Ended) ⌝ }
-        ensures { λ r. ⌜ Follows self meant.end r ⌝ }
+        ensures { λ r. ⌜ Follows plan self meant.end r ⌝ }
     {
-        let plan = self.plan;
         let line = self.line;
         let phase = self.phase;
         let tables = self.tables;
@@ -185,7 +186,6 @@ impl State {
         let steps = self.steps;
         let doubles = self.doubles;
         State {
-            plan: plan,
             line: line + 1,
             phase: Phase::Ended,
             tables: last,
@@ -193,29 +193,21 @@ impl State {
             doubles: doubles,
             additions: self.additions,
             doublings: self.doublings,
+            places: self.places,
         }
     }
 
-    // The D lines so far, of those that a sheet may have.
-    pub fn doubles_taken(self) -> usize
-        requires { ⌜ self .doubles .left ≤ card .doublings ⌝ }
-        ensures { λ r. ⌜ r + self .doubles .left ≡ card .doublings ⌝ }
-    {
-        let doubles = self.doubles;
-        MOST_DOUBLES - doubles.left
-    }
-
     // The state after a line in its place.
-    pub fn after(self, line: Line) -> State
+    pub fn after(self, plan: Plan, line: Line) -> State
         requires { ⌜ Counted self × (isPlaced (self .phase) line ≡ true) ⌝ }
-        ensures { λ r. ⌜ ((x : meant.Line) → line ≡ coded x → Follows self x r) ⌝ }
+        ensures { λ r. ⌜ ((x : meant.Line) → line ≡ coded x → Follows plan self x r) ⌝ }
     {
         match line {
-            Line::Table(t) => self.tabled(t),
-            Line::Load(t) => self.loaded(t),
+            Line::Table(t) => self.tabled(plan, t),
+            Line::Load(t) => self.loaded(plan, t),
             Line::Double => self.doubled(),
-            Line::Add(t) => self.added(t),
-            Line::End => self.ended(),
+            Line::Add(t) => self.added(plan, t),
+            Line::End => self.ended(plan),
             Line::Other => self,
         }
     }

@@ -1,30 +1,39 @@
--- What the first pass over the lines finds: the first line out of place, or what each of the questions 7 to 10 is answered.
+-- What the pass over the lines finds: the first line out of place, or what each of the questions 7 to 10 is answered.
 use mathlib.Core.Path.{_≡_}
 use mathlib.Core.List.{List, _∷_}
 use mathlib.Core.Option.{none, some}
-use Prim.Native.Nat.{_+_}
+use Prim.Native.Nat.{ℕ, _+_}
+use lib.IntN.{pos}
+use Rattle.digits.specs.Two.{Two}
 use Rattle.digits.specs.Limits.{card}
+use Rattle.sheet.specs.declared.Plan.{Plan}
 use Rattle.sheet.specs.Line.{Header, Line, plan, header}
 use Rattle.sheet.specs.Questions.{misplaced, offPlan, disallowed, excess, additions, doublings}
 use Rattle.lines.specs.Coded.{codedHeader}
-use Rattle.survey.specs.Survey.State.{found, misplacedFrom, offPlanFrom, disallowedIn, excessIn, leftAfter}
+use Rattle.survey.specs.Survey.State.{found, misplacedFrom, offPlanFrom, disallowedIn, excessIn}
+use Rattle.sums.specs.Sum.{most, Holds}
+use Rattle.survey.specs.Survey.Total.{total}
 use Rattle.lines.specs.declared.header.Header as header-of
 use Rattle.survey.specs.declared.state.State.{State}
 use Rattle.survey.specs.declared.scan.Scan as scan
 
--- the state s with the lines ls to come answers what the state r holds
-pub record Reached (s : State) (ls : List Line) (r : State) : Type 0 where
+-- by the plan, the state s with the lines ls to come answers what the state r holds
+pub record Reached (plan : Plan) (s : State) (ls : List Line) (r : State) : Type 0 where
   pub misplaced : misplacedFrom s ls ≡ none
-  pub offPlan : offPlanFrom s ls ≡ found (r .tables .fault)
-  pub disallowed : disallowedIn s ls ≡ found (r .steps .fault)
+  pub offPlan : offPlanFrom plan s ls ≡ found (r .tables .fault)
+  pub disallowed : disallowedIn plan s ls ≡ found (r .steps .fault)
   pub excess : excessIn s ls ≡ found (r .doubles .fault)
-  pub left : leftAfter (s .doubles .left) ls ≡ r .doubles .left
   pub additions : s .additions + additions ls ≡ r .additions
   pub doublings : s .doublings + doublings ls ≡ r .doublings
 
-abbrev pub Scanned : State → List Line → scan.Scan → Type 0
-Scanned s ls (scan.the-variants.Met r) = Reached s ls r
-Scanned s ls (scan.the-variants.Misplaced n) = misplacedFrom s ls ≡ some n
+abbrev pub Scanned : Plan → State → List Line → scan.Scan → Type 0
+Scanned plan s ls (scan.the-variants.Met r) = Reached plan s ls r
+Scanned plan s ls (scan.the-variants.Misplaced n) = misplacedFrom s ls ≡ some n
+
+-- at the end of the lines, the limbs hold what these come to
+abbrev pub Summed : Two → State → List Line → scan.Scan → List ℕ → Type 0
+Summed r s ls (scan.the-variants.Met t) xs = Holds most xs (total r (s .places) (pos 0) ls)
+Summed r s ls (scan.the-variants.Misplaced n) xs = Unit {0}
 
 -- the lines have a header, and to the questions 7 to 10 they answer what the state r holds
 pub record Answered (ls : List Line) (head : header-of.Header) (r : State) : Type 0 where
@@ -36,7 +45,6 @@ pub record Answered (ls : List Line) (head : header-of.Header) (r : State) : Typ
   pub offPlan : offPlan h ls ≡ found (r .tables .fault)
   pub disallowed : disallowed (plan h) ls ≡ found (r .steps .fault)
   pub excess : excess card ls ≡ found (r .doubles .fault)
-  pub left : leftAfter (card .doublings) ls ≡ r .doubles .left
   pub additions : additions ls ≡ r .additions
   pub doublings : doublings ls ≡ r .doublings
 

@@ -8,11 +8,12 @@ use lib.Dec.{eqb, leb}
 use lib.ListN.{drop}
 use Rattle.digits.specs.Limits.{card}
 use Rattle.sheet.specs.declared.Plan.{Plan}
-use Rattle.sheet.specs.Plan.{Point, slots, tables}
+use Rattle.sheet.specs.Plan.{Point, slots, tables, tableDoublings}
 use Rattle.sheet.specs.Line as spec
 use Rattle.sheet.specs.Line.{planOf, header, table, load, double, add, end, misspelled}
 use Rattle.sheet.specs.Questions.{windowed, samePoint, tableLines, differs, turn, disallowedFrom, excessFrom, additions, doublings, afterHeader, afterLoad, afterEnd, misplaced, offPlan, disallowed, excess}
 use Rattle.lines.specs.Coded.{kindOf, codedPoint, codedHeader}
+use Rattle.survey.specs.Survey.Total.{placesAfter}
 use Rattle.survey.specs.declared.fault.Fault.{Fault}
 use Rattle.survey.specs.declared.fault.Fault.the-variants.{Nowhere, At}
 use Rattle.lines.specs.declared.point.Point as point-of
@@ -87,20 +88,8 @@ pub record StepTaken (plan : Plan) (s : steps-of.Steps) (t : point-of.Point) (li
 
 -- ── 9 ───────────────────────────────────────────────────────────────────────────────────────
 
--- the D lines that may still come behind the lines
-unfoldable pub leftAfter : ℕ → List spec.Line → ℕ
-leftAfter left (double ∷ ls) = leftAfter (left - 1) ls
-leftAfter left (header h ∷ ls) = leftAfter left ls
-leftAfter left (table t ∷ ls) = leftAfter left ls
-leftAfter left (load t ∷ ls) = leftAfter left ls
-leftAfter left (add t ∷ ls) = leftAfter left ls
-leftAfter left (end ∷ ls) = leftAfter left ls
-leftAfter left (misspelled ∷ ls) = leftAfter left ls
-leftAfter left [] = left
-
 -- one D line more
 pub record DoubleTaken (s : doubles-of.Doubles) (line : ℕ) (r : doubles-of.Doubles) : Type 0 where
-  pub left : r .left ≡ s .left - 1
   pub rest : (ls : List spec.Line)
       → earlier (found (r .fault)) (excessFrom (r .left) (line + 1) ls) ≡ earlier (found (s .fault)) (excessFrom (s .left) line (double ∷ ls))
 
@@ -112,6 +101,16 @@ planFor h = planOf (kindOf (h .joint)) (h .m1) (h .m2)
 
 abbrev pub isOnPlan : header-of.Header → Bool
 isOnPlan h = windowed (kindOf (h .joint)) (h .m1) (h .m2) && eqb (h .slots) (slots (planFor h))
+
+-- the D lines that a plan and a header's doublings leave: 0 where they are negative or too many
+abbrev pub claimedOf : Plan → ℕ → ℕ
+claimedOf plan n = cond (leb (n - tableDoublings plan) (card .doublings)) (n - tableDoublings plan) 0
+
+abbrev pub claimed : header-of.Header → ℕ
+claimed h = claimedOf (planFor h) (h .doublings)
+
+abbrev pub claimedBy : spec.Header → ℕ
+claimedBy h = claimedOf (spec.plan h) (h .doublings)
 
 -- the lines that may stand next
 abbrev pub isBehindHeader : Line → Bool
@@ -150,50 +149,51 @@ differsIn phase.the-variants.Tables n us ls = differs n us (tableLines ls)
 differsIn phase.the-variants.Steps n us ls = none
 differsIn phase.the-variants.Ended n us ls = none
 
-abbrev pub offPlanFrom : State → List spec.Line → Option ℕ
-offPlanFrom s ls =
-    earlier (found (s .tables .fault)) (differsIn (s .phase) (s .line) (drop (s .tables .count) (tables (s .plan))) ls)
+abbrev pub offPlanFrom : Plan → State → List spec.Line → Option ℕ
+offPlanFrom plan s ls =
+    earlier (found (s .tables .fault)) (differsIn (s .phase) (s .line) (drop (s .tables .count) (tables plan)) ls)
 
 -- question 8
-abbrev pub disallowedIn : State → List spec.Line → Option ℕ
-disallowedIn s ls = earlier (found (s .steps .fault)) (disallowedFrom (s .plan) (s .steps .turn) (s .line) ls)
+abbrev pub disallowedIn : Plan → State → List spec.Line → Option ℕ
+disallowedIn plan s ls = earlier (found (s .steps .fault)) (disallowedFrom plan (s .steps .turn) (s .line) ls)
 
 -- question 9
 abbrev pub excessIn : State → List spec.Line → Option ℕ
 excessIn s ls = earlier (found (s .doubles .fault)) (excessFrom (s .doubles .left) (s .line) ls)
 
--- the counts are at most those of the lines, of which a sheet has few
+-- the counts are at most those of the lines, of which a sheet has few, and the D lines to come are within the limit
 pub record Counted (s : State) : Type 0 where
   pub few : s .line ≤ 100000
   pub tables : s .tables .count ≤ s .line
   pub additions : s .additions ≤ s .line
   pub doublings : s .doublings ≤ s .line
+  pub places : s .places ≤ card .doublings
 
 -- what the state r says of the lines ls is what the state s says of l and ls
-pub record Follows (s : State) (l : spec.Line) (r : State) : Type 0 where
+pub record Follows (plan : Plan) (s : State) (l : spec.Line) (r : State) : Type 0 where
   pub line : r .line ≡ s .line + 1
   pub tables : r .tables .count ≤ s .tables .count + 1
   pub adds : r .additions ≤ s .additions + 1
   pub doubles : r .doublings ≤ s .doublings + 1
   pub misplaced : (ls : List spec.Line) → misplacedFrom r ls ≡ misplacedFrom s (l ∷ ls)
-  pub offPlan : (ls : List spec.Line) → offPlanFrom r ls ≡ offPlanFrom s (l ∷ ls)
-  pub disallowed : (ls : List spec.Line) → disallowedIn r ls ≡ disallowedIn s (l ∷ ls)
+  pub offPlan : (ls : List spec.Line) → offPlanFrom plan r ls ≡ offPlanFrom plan s (l ∷ ls)
+  pub disallowed : (ls : List spec.Line) → disallowedIn plan r ls ≡ disallowedIn plan s (l ∷ ls)
   pub excess : (ls : List spec.Line) → excessIn r ls ≡ excessIn s (l ∷ ls)
-  pub left : (ls : List spec.Line) → leftAfter (r .doubles .left) ls ≡ leftAfter (s .doubles .left) (l ∷ ls)
   pub additions : (ls : List spec.Line) → r .additions + additions ls ≡ s .additions + additions (l ∷ ls)
   pub doublings : (ls : List spec.Line) → r .doublings + doublings ls ≡ s .doublings + doublings (l ∷ ls)
+  pub places : r .places ≡ placesAfter (s .places) l
 
 -- the state r behind the header
 pub record Behind (h : spec.Header) (r : State) : Type 0 where
   pub line : r .line ≡ 2
   pub counted : Counted r
   pub misplaced : (ls : List spec.Line) → misplacedFrom r ls ≡ misplaced (header h ∷ ls)
-  pub offPlan : (ls : List spec.Line) → offPlanFrom r ls ≡ offPlan h (header h ∷ ls)
-  pub disallowed : (ls : List spec.Line) → disallowedIn r ls ≡ disallowed (spec.plan h) (header h ∷ ls)
+  pub offPlan : (ls : List spec.Line) → offPlanFrom (spec.plan h) r ls ≡ offPlan h (header h ∷ ls)
+  pub disallowed : (ls : List spec.Line) → disallowedIn (spec.plan h) r ls ≡ disallowed (spec.plan h) (header h ∷ ls)
   pub excess : (ls : List spec.Line) → excessIn r ls ≡ excess card (header h ∷ ls)
-  pub left : (ls : List spec.Line) → leftAfter (r .doubles .left) ls ≡ leftAfter (card .doublings) (header h ∷ ls)
   pub additions : (ls : List spec.Line) → r .additions + additions ls ≡ additions (header h ∷ ls)
   pub doublings : (ls : List spec.Line) → r .doublings + doublings ls ≡ doublings (header h ∷ ls)
+  pub places : r .places ≡ claimedBy h
 
 abbrev pub Begins : header-of.Header → State → Type 0
 Begins head r = (h : spec.Header) → head ≡ codedHeader h → Behind h r

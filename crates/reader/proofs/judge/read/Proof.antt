@@ -1,10 +1,24 @@
--- `read` meets its contract: the first pass answers, or leaves question 11.
+-- `read` meets its contract: the pass over the sheet answers, or leaves question 11.
 use mathlib.Core.Path.{sym, ap, subst}
-use Rattle.survey.specs.Survey.{Surveyed}
+use Rattle.digits.specs.Two.{P, Q}
+use Rattle.survey.specs.Survey.{Surveyed, ResultIn}
+use Rattle.survey.specs.declared.questions.Survey.{Survey}
 use Rattle.reader.specs.Judgement.{judgement}
 use borrow.Author.Needs.{needs}
 use Rattle.reader.proofs.judge.read.Statement.{statement}
 use Rattle.reader.proofs.judge.read.Tie as tie
+
+empty-requires : tie.Need-empty-requires
+empty-requires c κs = search needs
+
+empty-requires-2 : tie.Need-empty-requires-2
+empty-requires-2 c κs = search needs
+
+slice-aggregate-surveyed : tie.Need-slice-aggregate-surveyed
+slice-aggregate-surveyed c = search needs
+
+slice-aggregate-surveyed-2 : tie.Need-slice-aggregate-surveyed-2
+slice-aggregate-surveyed-2 c = search needs
 
 surveyed-requires : tie.Need-surveyed-requires
 surveyed-requires c κs = search needs
@@ -12,14 +26,24 @@ surveyed-requires c κs = search needs
 enum-known-survey : tie.Need-enum-known-survey
 enum-known-survey c = search needs
 
-enum-known-survey-2 : tie.Need-enum-known-survey-2
-enum-known-survey-2 c = search needs
+enum-told : tie.Need-enum-told
+enum-told c = search needs
+
+slice-aggregate-result-question : tie.Need-slice-aggregate-result-question
+slice-aggregate-result-question c = search needs
+
+slice-aggregate-result-question-2 : tie.Need-slice-aggregate-result-question-2
+slice-aggregate-result-question-2 c = search needs
 
 result-question-requires : tie.Need-result-question-requires
-result-question-requires c κs = subst (Surveyed (c .before .before .before .before .before .args .sheet .now)) (c .before .survey2 .given .1) (c .before .before .before .surveyed .ensures)
+result-question-requires c κs =
+    let s = c .before .before .before .before .before .before .before .before .before .before .before .before .args .sheet .now in
+    let e = c .before .before .enum-told .given .1 in
+    let f = c .before .before .before .before .before .before .surveyed .ensures in
+    (subst (Surveyed s) e (f .0), (subst (λ (out : Survey). ResultIn P s out (c .before .before .before .before .before .before .surveyed .last .1 .0)) e (f .1 .0), subst (λ (out : Survey). ResultIn Q s out (c .before .before .before .before .before .before .surveyed .last .1 .1 .0)) e (f .1 .1)))
 
 returns : tie.Need-returns
-returns c = ap judgement (sym (subst (Surveyed (c .before .before .before .before .before .args .sheet .now)) (c .before .survey .given .1) (c .before .before .before .surveyed .ensures) .0))
+returns c = ap judgement (sym (subst (Surveyed (c .before .before .before .before .before .before .before .before .before .before .before .args .sheet .now)) (c .before .survey .given .1) (c .before .before .before .before .before .surveyed .ensures .0) .0))
 
 returns-2 : tie.Need-returns-2
 returns-2 c = search needs
@@ -28,9 +52,15 @@ pub read-spec : {M : Type 1} → statement M
 read-spec =
     tie.close
     (tie.spec
+    empty-requires
+    empty-requires-2
+    slice-aggregate-surveyed
+    slice-aggregate-surveyed-2
     surveyed-requires
     enum-known-survey
-    enum-known-survey-2
+    enum-told
+    slice-aggregate-result-question
+    slice-aggregate-result-question-2
     result-question-requires
     returns
     returns-2)

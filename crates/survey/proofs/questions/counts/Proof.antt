@@ -16,11 +16,8 @@ returns c = λ ls a f. answer-additions a f (c .if1 .taken)
 returns-2 : tie.Need-returns-2
 returns-2 c = λ ls a f. answer-doublings a f (c .before .if1 .left) (c .if2 .taken)
 
-doubles-taken-requires : tie.Need-doubles-taken-requires
-doubles-taken-requires c κs = search needs
-
 returns-3 : tie.Need-returns-3
-returns-3 c = λ ls a f. answer-met a f (c .before .before .if1 .left) (c .before .if2 .left) (c .doubles-taken .result) (c .doubles-taken .ensures)
+returns-3 c = λ ls a f. answer-met a f (c .before .if1 .left) (c .if2 .left)
 
 pub counts-spec : {M : Type 1} → statement M
 counts-spec =
@@ -30,5 +27,4 @@ counts-spec =
     cast-doublings
     returns
     returns-2
-    doubles-taken-requires
     returns-3)

@@ -1,22 +1,36 @@
--- `surveyed` meets its contract: each return is one line of Judged.
+-- `surveyed` meets its contract: each return is one line of Judged, and the sums are those of all lines (Claim).
 use native.Mathlib.Omega.{arith}
-use mathlib.Core.Path.{subst}
-use mathlib.Core.List.{List}
-use Prim.Native.Nat.{ℕ}
-use lib.ListN.{drop}
+use mathlib.Core.Path.{_≡_, sym, ap, subst, _∙_}
+use mathlib.Core.List.{List, []}
+use Prim.Native.Nat.{ℕ, _≤_}
+use lib.IntN.{pos}
+use lib.ListN.{length, drop}
 use Rattle.digits.specs.Limits.{card}
+use Rattle.digits.specs.Two.{Two, P, Q}
+use Rattle.sheet.specs.declared.Plan.{Plan}
+use Rattle.sheet.specs.Line.{Line, plan}
 use Rattle.sheet.specs.Spelling.{lines}
+use Rattle.sheet.specs.Answer.{heading}
 use Rattle.lines.specs.Coded.{Opens, Opened}
 use Rattle.lines.specs.declared.header.Header.{Header}
-use Rattle.survey.specs.Survey.Scan.{Answered, Scanned}
+use Rattle.sums.specs.Sum.{most, Holds}
+use Rattle.survey.specs.Survey.State.{planFor, claimedBy, Behind}
+use Rattle.survey.specs.Survey.Total.{total}
+use Rattle.survey.specs.Survey.Scan.{Reached, Answered, Scanned, Summed}
+use Rattle.survey.specs.Survey.{JudgedBy, ResultIn}
+use Rattle.survey.specs.declared.state.State.{State}
+use Rattle.survey.specs.declared.scan.Scan.{Scan}
+use Rattle.survey.specs.declared.questions.Survey.{Survey}
+use Rattle.survey.specs.declared.questions.Survey.the-variants.{Missed, Met}
+use Rattle.survey.proofs.HeaderTurns.{begin-plan}
 use Rattle.survey.proofs.ScanTurns.{no-opening, surveyed-met, surveyed-not}
-use Rattle.survey.proofs.Judged.{too-long, misplaced-line, left-few, whole-sheet}
+use Rattle.survey.proofs.Judged.{too-long, misplaced-line, whole-sheet}
 use borrow.Author.Needs.{needs}
 use Rattle.survey.proofs.questions.surveyed.Statement.{statement}
 use Rattle.survey.proofs.questions.surveyed.Tie as tie
 
 returns : tie.Need-returns
-returns c = too-long (c .before .before .args .sheet .now) (c .if1 .taken)
+returns c = (too-long (c .before .before .before .before .args .sheet .now) (c .if1 .taken), (tt, tt))
 
 opening-of-requires : tie.Need-opening-of-requires
 opening-of-requires c κs = search needs
@@ -29,8 +43,11 @@ enum-told c = search needs
 
 returns-2 : tie.Need-returns-2
 returns-2 c =
-    let s = c .before .before .before .before .before .args .sheet .now in
-    misplaced-line s 1 (c .before .before .before .if1 .left) (no-opening (lines card s) (subst (Opens s) (c .enum-told .given .1) (c .before .before .opening-of .ensures)))
+    let s = c .before .before .before .before .before .before .before .args .sheet .now in
+    (misplaced-line s 1 (c .before .before .before .if1 .left) (no-opening (lines card s) (subst (Opens s) (c .enum-told .given .1) (c .before .before .opening-of .ensures))), (tt, tt))
+
+plan-of-requires : tie.Need-plan-of-requires
+plan-of-requires c κs = search needs
 
 new-requires : tie.Need-new-requires
 new-requires c κs = search needs
@@ -38,52 +55,100 @@ new-requires c κs = search needs
 -- the header, and the state behind it
 module _ (c : tie.After-new) where
   abbrev sheet : List ℕ
-  sheet = c .before .before .before .before .before .before .before .args .sheet .now
+  sheet = c .before .before .before .before .before .before .before .before .before .before .args .sheet .now
 
   abbrev head : Header
-  head = c .before .before .opening .given .0 .0
+  head = c .before .before .before .opening .given .0 .0
 
   abbrev next : ℕ
-  next = c .before .before .opening .given .0 .1 .0
+  next = c .before .before .before .opening .given .0 .1 .0
+
+  short : length sheet ≤ 16384
+  short = c .before .before .before .before .before .before .if1 .left
 
   opened : Opened sheet head next
-  opened = subst (Opens sheet) (c .before .before .opening .given .1) (c .before .before .before .before .opening-of .ensures)
+  opened = subst (Opens sheet) (c .before .before .before .opening .given .1) (c .before .before .before .before .before .opening-of .ensures)
+
+  behind : Behind (opened .h) (c .new .result)
+  behind = c .new .ensures (opened .h) (opened .is)
+
+  -- the plan is the header's
+  planned : c .before .plan-of .result ≡ plan (opened .h)
+  planned = c .before .plan-of .ensures ∙ ap planFor (opened .is) ∙ begin-plan (opened .h) []
+
+  met : (r : State) → Reached (c .before .plan-of .result) (c .new .result) (lines card (drop next sheet)) r → Answered (lines card sheet) head r
+  met r f = surveyed-met (opened .is) behind (lines card sheet) r (opened .rest) (subst (λ (p : Plan). Reached p (c .new .result) (lines card (drop next sheet)) r) planned f)
+
+  -- the sums of the lines behind the header are those of all
+  from-all : (r : Two) → total r (c .new .result .places) (pos 0) (lines card (drop next sheet)) ≡ total r (claimedBy (heading (lines card sheet))) (pos 0) (lines card sheet)
+  unfolding total
+  from-all r =
+      ap (λ (n : ℕ). total r n (pos 0) (lines card (drop next sheet))) (behind .places ∙ ap (λ (ls : List Line). claimedBy (heading ls)) (sym (opened .rest)))
+      ∙ ap (total r (claimedBy (heading (lines card sheet))) (pos 0)) (sym (opened .rest))
 
 scan-from-requires : tie.Need-scan-from-requires
 scan-from-requires c κs =
-    let o = opened c in
-    let b = c .new .ensures (o .h) (o .is) in
-    (c .before .before .before .before .before .if1 .left, (o .within, (b .counted, omega (arith, b .line, o .later))))
+    let n = c .before .before in
+    let o = opened n in
+    let b = behind n in
+    ((short n, (o .within, (b .counted, omega (arith, b .line, o .later)))), n .before .before .before .before .before .before .before .before .before .before .pre)
 
 enum-known-scan : tie.Need-enum-known-scan
 enum-known-scan c = search needs
 
 -- all lines are in place
 module _ (c : tie.After-scan) where
-  answered : Answered (lines card (sheet (c .before .before .before))) (head (c .before .before .before)) (c .scan .given .0 .0)
+  answered : Answered (lines card (sheet (c .before .before .before .before .before .before .before .before .before))) (head (c .before .before .before .before .before .before .before .before .before)) (c .scan .given .0 .0)
   answered =
-      let n = c .before .before .before in
-      let o = opened n in
-      surveyed-met (o .is) (n .new .ensures (o .h) (o .is)) (lines card (sheet n)) _ (o .rest) (subst (Scanned (n .new .result) (lines card (drop (next n) (sheet n)))) (c .scan .given .1) (c .before .before .scan-from .ensures))
+      let n = c .before .before .before .before .before .before .before .before .before in
+      met n _ (subst (Scanned (n .before .plan-of .result) (n .new .result) (lines card (drop (next n) (sheet n)))) (c .scan .given .1) (c .before .before .before .before .before .before .scan-from .ensures .0))
+
+  -- where the claim is true, a sum is the result's number
+  result-in : (r : Two) (xs : List ℕ) (out : Survey) → JudgedBy (lines card (sheet (c .before .before .before .before .before .before .before .before .before))) out
+      → Summed r (c .before .before .before .before .before .before .before .before .before .new .result) (lines card (drop (next (c .before .before .before .before .before .before .before .before .before)) (sheet (c .before .before .before .before .before .before .before .before .before)))) (c .before .before .before .before .before .before .scan-from .result) xs → ResultIn r (sheet (c .before .before .before .before .before .before .before .before .before)) out xs
+  result-in r xs (Missed number line) j h = tt
+  result-in r xs Met j h =
+      let n = c .before .before .before .before .before .before .before .before .before in
+      subst (Holds most xs) (from-all n r ∙ j .claim r) (subst (λ (out : Scan). Summed r (n .new .result) (lines card (drop (next n) (sheet n))) out xs) (c .scan .given .1) h)
 
 questions-requires : tie.Need-questions-requires
-questions-requires c κs = left-few (answered (c .before))
+questions-requires c κs = search needs
 
 enum-known-scan-2 : tie.Need-enum-known-scan-2
 enum-known-scan-2 c = search needs
 
-cast-t12 : tie.Need-cast-t12
-cast-t12 c = search needs
+cast-t19 : tie.Need-cast-t19
+cast-t19 c = search needs
+
+same-length : tie.Need-same-length
+same-length c = search needs
+
+same-length-2 : tie.Need-same-length-2
+same-length-2 c = search needs
 
 returns-3 : tie.Need-returns-3
-returns-3 c = whole-sheet (sheet (c .before .before .before .before .before)) (c .questions .result) (c .before .before .before .before .before .before .before .before .before .before .if1 .left) (answered (c .before .before)) (c .questions .ensures (lines card (sheet (c .before .before .before .before .before))) (answered (c .before .before)))
+returns-3 c =
+    let s = c .before .before in
+    let n = s .before .before .before .before .before .before .before .before .before in
+    let j = c .questions .ensures (lines card (sheet n)) (answered s) in (
+      whole-sheet (sheet n) (c .questions .result) (short n) (answered s) j,
+      (result-in s P _ (c .questions .result) j (s .before .before .before .before .before .before .scan-from .ensures .1 .0), result-in s Q _ (c .questions .result) j (s .before .before .before .before .before .before .scan-from .ensures .1 .1)),
+    )
+
+same-length-3 : tie.Need-same-length-3
+same-length-3 c = search needs
+
+same-length-4 : tie.Need-same-length-4
+same-length-4 c = search needs
 
 returns-4 : tie.Need-returns-4
 returns-4 c =
-    let n = c .before .before .before .before in
-    let o = opened n in
-    misplaced-line (sheet n) _ (c .before .before .before .before .before .before .before .before .before .if1 .left)
-    (surveyed-not (o .is) (n .new .ensures (o .h) (o .is)) (lines card (sheet n)) _ (o .rest) (subst (Scanned (n .new .result) (lines card (drop (next n) (sheet n)))) (c .before .scan2 .given .1) (c .before .before .before .scan-from .ensures)))
+    let n = c .before .before .before .before .before .before .before .before .before .before in
+    let o = opened n in (
+      misplaced-line (sheet n) _ (short n)
+          (surveyed-not (o .is) (behind n) (lines card (sheet n)) _ (o .rest) (subst (Scanned (n .before .plan-of .result) (n .new .result) (lines card (drop (next n) (sheet n)))) (c .before .scan2 .given .1) (c .before .before .before .before .before .before .before .scan-from .ensures .0))),
+      (tt, tt),
+    )
 
 pub surveyed-spec : {M : Type 1} → statement M
 surveyed-spec =
@@ -94,11 +159,16 @@ surveyed-spec =
     enum-known-opening
     enum-told
     returns-2
+    plan-of-requires
     new-requires
     scan-from-requires
     enum-known-scan
     questions-requires
     enum-known-scan-2
-    cast-t12
+    cast-t19
+    same-length
+    same-length-2
     returns-3
+    same-length-3
+    same-length-4
     returns-4)

@@ -7,7 +7,7 @@ use Rattle.sheet.specs.Plan.{tables}
 use Rattle.sheet.specs.Line.{add}
 use Rattle.survey.specs.Survey.State.{earlier, found}
 use Rattle.survey.proofs.PhaseTurns.{in-steps, differs-steps}
-use Rattle.survey.proofs.StateTurns.{load-add, excess-add, left-add, adds-add, doubles-add}
+use Rattle.survey.proofs.StateTurns.{load-add, excess-add, adds-add, doubles-add}
 use borrow.Author.Needs.{needs}
 use Rattle.survey.proofs.state.State.added.Statement.{statement}
 use Rattle.survey.proofs.state.State.added.Tie as tie
@@ -25,18 +25,19 @@ returns : tie.Need-returns
 returns c =
     λ x e.
     let s = c .before .before .before .before .before .args .self in
+    let plan = c .before .before .before .before .before .args .plan in
     record {
       line = refl;
       tables = omega arith;
       adds = omega arith;
       doubles = omega arith;
       misplaced = λ ls. load-add (s .line) ls x ∙ in-steps (s .phase) (s .line) [] (add x ∷ ls) (c .before .before .before .before .before .pre .1);
-      offPlan = λ ls. ap (earlier (found (s .tables .fault))) (differs-steps (s .phase) (s .line) (drop (s .tables .count) (tables (s .plan))) (add x ∷ ls) (c .before .before .before .before .before .pre .1));
+      offPlan = λ ls. ap (earlier (found (s .tables .fault))) (differs-steps (s .phase) (s .line) (drop (s .tables .count) (tables plan)) (add x ∷ ls) (c .before .before .before .before .before .pre .1));
       disallowed = λ ls. c .before .before .taken .ensures .added x e ls;
       excess = λ ls. ap (earlier (found (s .doubles .fault))) (excess-add (s .line) ls x (s .doubles .left));
-      left = λ ls. left-add (s .line) ls x (s .doubles .left);
       additions = λ ls. adds-add (s .line) ls x (s .additions);
       doublings = λ ls. doubles-add (s .line) ls x (s .doublings);
+      places = refl;
     }
 
 pub added-spec : {M : Type 1} → statement M

@@ -1,6 +1,7 @@
 -- `State::after` meets its contract, by cases on the line.
 use mathlib.Core.Path.{_≡_, sym, ap, subst, _∙_}
 use mathlib.Core.Bool.{true}
+use Rattle.sheet.specs.declared.Plan.{Plan}
 use Rattle.sheet.specs.Line.{Line}
 use Rattle.lines.proofs.Was.{was}
 use Rattle.lines.specs.declared.line.Line as line-of
@@ -50,23 +51,23 @@ enum-told-3 : tie.Need-enum-told-3
 enum-told-3 c = search needs
 
 -- what follows the line that x stands for follows x
-follows : (s r : State) (x y : Line) → x ≡ y → Follows s y r → Follows s x r
-follows s r x y e f = subst (λ (l : Line). Follows s l r) (sym e) f
+follows : (plan : Plan) (s r : State) (x y : Line) → x ≡ y → Follows plan s y r → Follows plan s x r
+follows plan s r x y e f = subst (λ (l : Line). Follows plan s l r) (sym e) f
 
 returns : tie.Need-returns
-returns c = λ x e. let w = was x (sym e ∙ c .before .before .line .given .1) in follows _ _ x _ (w .1) (c .tabled .ensures (w .0) (w .2))
+returns c = λ x e. let w = was x (sym e ∙ c .before .before .line .given .1) in follows _ _ _ x _ (w .1) (c .tabled .ensures (w .0) (w .2))
 
 returns-2 : tie.Need-returns-2
-returns-2 c = λ x e. let w = was x (sym e ∙ c .before .before .line2 .given .1) in follows _ _ x _ (w .1) (c .loaded .ensures (w .0) (w .2))
+returns-2 c = λ x e. let w = was x (sym e ∙ c .before .before .line2 .given .1) in follows _ _ _ x _ (w .1) (c .loaded .ensures (w .0) (w .2))
 
 returns-3 : tie.Need-returns-3
-returns-3 c = λ x e. follows _ _ x _ (was x (sym e ∙ c .before .enum-told .given .1)) (c .doubled .ensures)
+returns-3 c = λ x e. follows _ _ _ x _ (was x (sym e ∙ c .before .enum-told .given .1)) (c .doubled .ensures _)
 
 returns-4 : tie.Need-returns-4
-returns-4 c = λ x e. let w = was x (sym e ∙ c .before .before .line3 .given .1) in follows _ _ x _ (w .1) (c .added .ensures (w .0) (w .2))
+returns-4 c = λ x e. let w = was x (sym e ∙ c .before .before .line3 .given .1) in follows _ _ _ x _ (w .1) (c .added .ensures (w .0) (w .2))
 
 returns-5 : tie.Need-returns-5
-returns-5 c = λ x e. follows _ _ x _ (was x (sym e ∙ c .before .enum-told2 .given .1)) (c .ended .ensures)
+returns-5 c = λ x e. follows _ _ _ x _ (was x (sym e ∙ c .before .enum-told2 .given .1)) (c .ended .ensures)
 
 returns-6 : tie.Need-returns-6
 returns-6 c = λ x e. absurd (at-other (c .before .before .args .self .phase) (placed (c .before .before) _ (c .enum-told3 .given .1)))

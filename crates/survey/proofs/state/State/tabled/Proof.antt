@@ -8,7 +8,7 @@ use Rattle.sheet.specs.Line.{table}
 use Rattle.sheet.specs.Questions.{tableLines, differs}
 use Rattle.survey.specs.Survey.State.{earlier, found}
 use Rattle.survey.proofs.PhaseTurns.{in-tables, differs-tables}
-use Rattle.survey.proofs.StateTurns.{header-table, lines-table, disallowed-table, excess-table, left-table}
+use Rattle.survey.proofs.StateTurns.{header-table, lines-table, disallowed-table, excess-table}
 use borrow.Author.Needs.{needs}
 use Rattle.survey.proofs.state.State.tabled.Statement.{statement}
 use Rattle.survey.proofs.state.State.tabled.Tie as tie
@@ -32,6 +32,7 @@ returns : tie.Need-returns
 returns c =
     λ x e.
     let s = c .before .before .before .before .before .before .before .before .before .args .self in
+    let plan = c .before .before .before .before .before .before .before .before .before .args .plan in
     let p = c .before .before .before .before .before .before .before .before .before .pre .1 in
     let n = c .before .before .before .before .before .before .counts-of .ensures in
     let k = n .1 x e in
@@ -44,13 +45,13 @@ returns c =
       misplaced = λ ls. header-table (s .line) ls x ∙ in-tables (s .phase) (s .line) [] (table x ∷ ls) p;
       offPlan = λ ls.
           t .rest x e (tableLines ls)
-          ∙ ap (λ (ts : List Point). earlier (found (s .tables .fault)) (differs (s .line) (drop (s .tables .count) (tables (s .plan))) ts)) (sym (lines-table (s .line) ls x))
-          ∙ ap (earlier (found (s .tables .fault))) (differs-tables (s .phase) (s .line) (drop (s .tables .count) (tables (s .plan))) (table x ∷ ls) p);
-      disallowed = λ ls. ap (earlier (found (s .steps .fault))) (disallowed-table (s .line) ls x (s .plan) (s .steps .turn));
+          ∙ ap (λ (ts : List Point). earlier (found (s .tables .fault)) (differs (s .line) (drop (s .tables .count) (tables plan)) ts)) (sym (lines-table (s .line) ls x))
+          ∙ ap (earlier (found (s .tables .fault))) (differs-tables (s .phase) (s .line) (drop (s .tables .count) (tables plan)) (table x ∷ ls) p);
+      disallowed = λ ls. ap (earlier (found (s .steps .fault))) (disallowed-table (s .line) ls x plan (s .steps .turn));
       excess = λ ls. ap (earlier (found (s .doubles .fault))) (excess-table (s .line) ls x (s .doubles .left));
-      left = λ ls. left-table (s .line) ls x (s .doubles .left);
       additions = λ ls. omega (arith, k .additions ls);
       doublings = λ ls. omega (arith, k .doublings ls);
+      places = refl;
     }
 
 pub tabled-spec : {M : Type 1} → statement M

@@ -1,3 +1,0 @@
--- What the private contracts of the code speak of.
-pub mod Limbs
-pub mod Accumulator

@@ -1,0 +1,119 @@
+-- Numbers in limbs: a scalar by its last figures, and the turns of the comparison. From the value of a list of limbs.
+use mathlib.Core.Path.{_≡_, refl, sym, ap, subst, _∙_}
+use mathlib.Core.Logic.{_≢_}
+use mathlib.Core.Bool.{Bool, true, false, and-eq-true-iff}
+use mathlib.Core.List.{List, [], _∷_, _++_}
+use Prim.Native.Nat.{ℕ, zero, suc, _+_, _*_, _/_, _%_, _≤_, _<_}
+use native.Mathlib.Omega.{arith}
+use lib.Dec.{eqb, ltb}
+use lib.ListN.{length, getD, take, drop, replicate, drop-of-length-le, length-replicate}
+use lib.Seq.{drop-cons, take-suc, take-length}
+use borrow.Author.Tests.{eq-eqb, ne-eqb, eqb-true, eqb-false, ltb-true}
+use lib.IntN.{ℤ, pos, negsuc}
+use Rattle.digits.specs.Integer.{up, down}
+use Rattle.digits.specs.Integer.Parts.{negation}
+use Rattle.sheet.specs.Numeral.{worth, figures, followed}
+use Rattle.sheet.specs.Questions.{sameNumber}
+use Rattle.lines.specs.Coded.{whole, wholeOf}
+use Rattle.sums.specs.Sum.{limb, limbs, start, value, empty, Holds, before}
+use Rattle.lines.specs.declared.point.Signed.{Signed}
+
+-- ── a scalar ────────────────────────────────────────────────────────────────────────────────
+
+followed-last : (n : ℕ) (s : List ℕ) (c : ℕ) → followed 16 n (s ++ (c ∷ [])) ≡ followed 16 n s * 16 + worth c
+unfolding followed
+followed-last n [] c = refl
+followed-last n (x ∷ s) c = followed-last (n * 16 + worth x) s c
+
+-- no figure before the first place
+pub before-none : (s : List ℕ) → before s 0 ≡ 0
+unfolding followed
+before-none s = refl
+
+-- one figure
+pub before-last : (s : List ℕ) (i : ℕ) → i < length s → before s (suc i) ≡ 16 * before s i + worth (getD s i 0)
+before-last s i h = ap (followed 16 0) (take-suc s i 0 h) ∙ followed-last 0 (take i s) (getD s i 0) ∙ omega arith
+
+pub before-all : (s : List ℕ) → before s (length s) ≡ followed 16 0 s
+before-all s = ap (followed 16 0) (take-length s)
+
+pub figure-small : (s : List ℕ) (i : ℕ) → figures 16 s ≡ true → i < length s → worth (getD s i 0) < 16
+unfolding figures
+figure-small [] i e h = absurd (omega arith)
+figure-small (c ∷ s) zero e h = ltb-true (worth c) 16 (and-eq-true-iff (ltb (worth c) 16) (figures 16 s) .0 e .0)
+figure-small (c ∷ s) (suc i) e h = figure-small s i (and-eq-true-iff (ltb (worth c) 16) (figures 16 s) .0 e .1) (omega arith)
+
+-- ── the limbs of 0 ──────────────────────────────────────────────────────────────────────────
+
+starts : (n i : ℕ) → i < n → getD (replicate n start) i 0 ≡ start
+starts zero i h = absurd (omega arith)
+starts (suc n) zero h = refl
+starts (suc n) (suc i) h = starts n i (omega arith)
+
+pub empty-limb : (i : ℕ) → i < limbs → getD empty i 0 ≡ start
+unfolding empty
+empty-limb i h = starts limbs i h
+
+pub empty-long : length empty ≡ limbs
+unfolding empty
+empty-long = length-replicate {A = ℕ} limbs start
+
+-- from a limb on
+empty-drop : (i : ℕ) → i < limbs → value (drop i empty) ≡ start + limb * value (drop (suc i) empty)
+unfolding value
+empty-drop i h = ap value (drop-cons empty i 0 (omega (arith, empty-long))) ∙ ap (λ (n : ℕ). n + limb * value (drop (suc i) empty)) (empty-limb i h)
+
+-- ── the comparison ──────────────────────────────────────────────────────────────────────────
+
+-- two tests that hold together are the same
+pub same-test : (a b c d : ℕ) → (a ≡ b → c ≡ d) → (c ≡ d → a ≡ b) → eqb a b ≡ eqb c d
+same-test a b c d f g = go (eqb c d) refl
+  where
+    go : (t : Bool) → eqb c d ≡ t → eqb a b ≡ t
+    go true e = eq-eqb a b (g (eqb-true c d e))
+    go false e = ne-eqb a b (λ h. eqb-false c d e (f h))
+
+-- the scalar x from here on is limb * rest + l
+module _ (x rest l : ℕ) (e : x ≡ limb * rest + l) (xs : List ℕ) (i left right : ℕ) (h : i < limbs) (k : i < length xs) where
+  pub sum-turn : (l + start + left) % limb ≡ (getD xs i 0 + right) % limb
+      → eqb (rest + value (drop (i + 1) empty) + (l + start + left) / limb) (value (drop (i + 1) xs) + (getD xs i 0 + right) / limb)
+      ≡ eqb (x + value (drop i empty) + left) (value (drop i xs) + right)
+  unfolding value
+  sum-turn s =
+      rw (native.Mathlib.Numerals.add-one, drop-cons xs i 0 k)
+      (same-test (rest + value (drop (suc i) empty) + (l + start + left) / limb) (value (drop (suc i) xs) + (getD xs i 0 + right) / limb)
+      (x + value (drop i empty) + left) (getD xs i 0 + limb * value (drop (suc i) xs) + right)
+      (λ q. omega (arith, empty-drop i h)) (λ q. omega (arith, empty-drop i h)))
+
+  pub sum-stop : (l + start + left) % limb ≢ (getD xs i 0 + right) % limb → false ≡ eqb (x + value (drop i empty) + left) (value (drop i xs) + right)
+  unfolding value
+  sum-stop s =
+      rw (drop-cons xs i 0 k)
+      (sym (ne-eqb (x + value (drop i empty) + left) (getD xs i 0 + limb * value (drop (suc i) xs) + right)
+      (λ q. s (omega (arith, empty-drop i h)))))
+
+pub sum-end : (x : ℕ) (xs : List ℕ) (i left right : ℕ) → x ≡ 0 → limbs ≤ i → length xs ≤ i
+    → eqb left right ≡ eqb (x + value (drop i empty) + left) (value (drop i xs) + right)
+unfolding value
+sum-end x xs i left right e h k =
+    rw (drop-of-length-le empty {i = i} (omega (arith, empty-long)), drop-of-length-le xs k)
+    (same-test left right (x + 0 + left) (0 + right) (λ q. omega arith) (λ q. omega arith))
+
+pub sum-start : (x y z : ℕ) → eqb (x + y + 0) (z + 0) ≡ eqb (x + y) z
+sum-start x y z = same-test (x + y + 0) (z + 0) (x + y) z (λ q. omega arith) (λ q. omega arith)
+
+-- the number is k exactly if its limbs are those of 0 and of k
+pub is-number : (n : ℕ) (xs : List ℕ) (z : ℤ) (k : ℕ) → Holds n xs z → eqb (k + value empty) (value xs) ≡ sameNumber z (pos k)
+is-number n xs (pos m) k i = same-test (k + value empty) (value xs) m k (λ e. omega (arith, i .is)) (λ e. omega (arith, i .is))
+is-number n xs (negsuc m) k i = ne-eqb (k + value empty) (value xs) (λ e. omega (arith, i .is))
+
+-- ── a digit ─────────────────────────────────────────────────────────────────────────────────
+
+-- by its sign and its size
+pub sign-minus : (s : Signed) → s .negative ≡ true → (up (whole s) ≡ 0) × (down (whole s) ≡ s .size)
+sign-minus s e =
+    subst (λ (b : Bool). (up (wholeOf b (s .size)) ≡ 0) × (down (wholeOf b (s .size)) ≡ s .size)) (sym e)
+    (negation (pos (s .size)) .0, negation (pos (s .size)) .1)
+
+pub sign-plus : (s : Signed) → s .negative ≡ false → (up (whole s) ≡ s .size) × (down (whole s) ≡ 0)
+sign-plus s e = subst (λ (b : Bool). (up (wholeOf b (s .size)) ≡ s .size) × (down (wholeOf b (s .size)) ≡ 0)) (sym e) (refl, refl)

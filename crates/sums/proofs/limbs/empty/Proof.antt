@@ -1,0 +1,12 @@
+-- `empty` meets its contract: no digit was added.
+use mathlib.Core.Path.{refl}
+use Rattle.sums.specs.Sum.{empty}
+use Rattle.sums.proofs.Digits.{holds-none}
+use Rattle.sums.proofs.limbs.empty.Statement.{statement}
+use Rattle.sums.proofs.limbs.empty.Tie as tie
+
+returns : tie.Need-returns
+returns c = holds-none (unfold empty in refl)
+
+pub empty-spec : {M : Type 1} → statement M
+empty-spec = tie.close (tie.spec returns)

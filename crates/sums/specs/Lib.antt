@@ -1,0 +1,2 @@
+-- What the numbers stand for.
+pub mod Sum

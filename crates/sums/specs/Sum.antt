@@ -1,0 +1,68 @@
+-- A whole number in limbs of 16 bits, the least significant first. Each limb begins in the middle of its range and may come to hold
+-- more than its bits, or less than it began with.
+use mathlib.Core.Path.{_≡_}
+use mathlib.Core.List.{List, [], _∷_}
+use Prim.Native.Nat.{ℕ, suc, _+_, _-_, _*_, _^_, _≤_, _<_}
+use lib.IntN.{ℤ, pos, _+ℤ_, _*ℤ_}
+use lib.ListN.{length, getD, take, replicate}
+use Rattle.digits.specs.Integer.{up, down}
+use Rattle.sheet.specs.Numeral.{followed}
+use Rattle.sums.specs.declared.compare.Figures.{Figures}
+
+-- the next limb counts for so much
+abbrev pub limb : ℕ
+limb = 65536
+
+-- how many limbs there are
+abbrev pub limbs : ℕ
+limbs = 34
+
+-- what each limb begins with
+abbrev pub start : ℕ
+start = 4611686018427387904
+
+-- a digit of 32 bits at the highest place of a limb
+abbrev pub unit : ℕ
+unit = 140737488355328
+
+-- so many digits may be added
+abbrev pub most : ℕ
+most = 16384
+
+-- the number of a list of limbs
+unfoldable pub value : List ℕ → ℕ
+value [] = 0
+value (x ∷ xs) = x + limb * value xs
+
+-- the limbs of 0
+unfoldable pub empty : List ℕ
+empty = replicate limbs start
+
+-- all limbs are there, each at most n units from where it began
+pub record Near (n : ℕ) (xs : List ℕ) : Type 0 where
+  pub long : length xs ≡ limbs
+  pub least : (i : ℕ) → i < limbs → start ≤ getD xs i 0 + n * unit
+  pub high : (i : ℕ) → i < limbs → getD xs i 0 ≤ start + n * unit
+
+-- one digit more can be added
+abbrev pub Roomy : List ℕ → Type 0
+Roomy xs = Near most xs
+
+-- the limbs make the number z, after n digits at most
+pub record Holds (n : ℕ) (xs : List ℕ) (z : ℤ) : Type 0 where
+  pub near : Near n xs
+  pub is : value xs + down z ≡ value empty + up z
+
+-- the limbs ys have a digit y more than xs, at the place k
+abbrev pub Added : ℕ → ℤ → List ℕ → List ℕ → Type 0
+Added k y xs ys = (n : ℕ) (z : ℤ) → Holds n xs z → Holds (suc n) ys (z +ℤ pos (2 ^ k) *ℤ y)
+
+-- the number of the figures before a place of a scalar
+abbrev pub before : List ℕ → ℕ → ℕ
+before s end = followed 16 0 (take end s)
+
+-- r has the last n figures before a place, which count below the base
+pub record Below (base n : ℕ) (s : List ℕ) (end : ℕ) (r : Figures) : Type 0 where
+  pub start : r .start ≡ end - n
+  pub is : before s end ≡ base * before s (r .start) + r .value
+  pub small : r .value < base
