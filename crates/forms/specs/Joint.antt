@@ -7,6 +7,7 @@ pub mod Sparse
 pub mod Unique
 pub mod Fewest
 pub mod Length
+pub mod Zeros
 use mathlib.Core.Path.{_≡_}
 use mathlib.Core.Logic.{_≢_, _⊎_}
 use mathlib.Core.Bool.{Bool, true, false, not, _&&_, _||_, cond}

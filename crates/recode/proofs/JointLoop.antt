@@ -1,6 +1,7 @@
--- One turn of the column loop over plain values: the state that the loop keeps, what one side of a turn needs, and the turn.
+-- One turn of the column loop over plain values: the state that the loop keeps, what one side of a turn needs, and what each
+-- kind of turn makes of the state.
 use mathlib.Core.Path.{_≡_, refl, sym, ap, subst, _∙_}
-use mathlib.Core.Logic.{_⊎_, ⊎-elim}
+use mathlib.Core.Logic.{_⊎_, ⊎-elim, ⊎-map}
 use mathlib.Core.List.{List}
 use Prim.Native.Nat.{ℕ, _+_, _%_, _≤_, _<_}
 use native.Mathlib.Omega.{arith}
@@ -9,20 +10,19 @@ use lib.ListN.{length, set, replicate, length-set}
 use Rattle.digits.specs.Byte.{byteOf}
 use Rattle.digits.specs.Scalar.{Bytes}
 use Rattle.digits.specs.Column as Column
-use Rattle.digits.specs.Integer.{up, half}
+use Rattle.digits.specs.Integer.{half}
 use Rattle.digits.specs.Scalar.{little}
 use Rattle.digits.specs.Two.{Two, P, Q, of, two}
 use Rattle.forms.specs.Joint.{joint, digit, rest}
 use Rattle.forms.specs.Joint.Digit.{digit-mod, digit-fits, joint-rest-pos}
-use Rattle.forms.specs.Joint.Rule.{BothZero}
 use Rattle.recode.specs.declared.low.Low.{Low}
 use Rattle.recode.specs.Call.{filled}
 use Rattle.recode.specs.Body.Remainder.{remaining, Held}
-use Rattle.recode.proofs.LowRemainder.{Used, remaining-new, remaining-zero, remaining-some, remaining-less, sixty-four}
-use Rattle.recode.proofs.JointTurns.{Turn, relaid, start, store, stop, room}
+use Rattle.recode.proofs.LowRemainder.{Used, Without, remaining-new, remaining-shifted, still, remaining-zero, remaining-some, remaining-less, low-bits}
+use Rattle.recode.proofs.JointTurns.{Turn, relaid, start, skip, store, stop, room}
 
 -- what one of the two numbers needs: its digit comes from the lowest bits of both
-module _ (bytes bytes′ : List ℕ) (s o : Low) (d : ℤ) (of-lowest : d ≡ digit (pos (s .low % 64)) (pos (o .low % 64))) where
+module _ (s o : Low) (d : ℤ) (of-lowest : d ≡ digit (pos (s .low % 64)) (pos (o .low % 64))) where
   is : d ≡ digit (pos (s .low)) (pos (o .low))
   is =
       of-lowest
@@ -36,12 +36,12 @@ module _ (bytes bytes′ : List ℕ) (s o : Low) (d : ℤ) (of-lowest : d ≡ di
   halved =
       let k = joint-rest-pos (s .low) (o .low) in (k .0, ap (λ (x : ℤ). half (pos (s .low) -ℤ x)) is ∙ k .1)
 
-  module _ (bits : 6 ≤ s .bits) (bits′ : 6 ≤ o .bits) where
+  module _ (bytes bytes′ : List ℕ) (bits : 3 ≤ s .bits) (bits′ : 3 ≤ o .bits) where
     whole-digit : d ≡ digit (pos (remaining bytes s)) (pos (remaining bytes′ o))
     whole-digit =
         is
         ∙ digit-mod (pos (s .low)) (pos (remaining bytes s)) (pos (o .low)) (pos (remaining bytes′ o))
-        (omega (arith, sixty-four bytes s bits)) (omega (arith, sixty-four bytes′ o bits′))
+        (sym (low-bits bytes s 3 bits)) (sym (low-bits bytes′ o 3 bits′))
 
     pub next : (t : Low) → (t .at ≡ s .at) × ((t .bits + 1 ≡ s .bits) × (pos (t .low) ≡ half (pos (s .low) -ℤ d)))
         → pos (remaining bytes t) ≡ rest (pos (remaining bytes s)) (pos (remaining bytes′ o))
@@ -60,9 +60,19 @@ pub record Given (k l : List ℕ) (k-used l-used : ℕ) (k-out₀ l-out₀ : Lis
   pub equal : length l-out₀ ≡ length k-out₀
   pub fits : length (joint (pos (little k)) (pos (little l))) ≤ length k-out₀
 
+-- something is left of one of the two
+abbrev pub Going : ℕ → ℕ → Low → Low → Type 0
+Going k-used l-used s t = (s .low ≡ 0 → s .at < k-used) ⊎ (t .low ≡ 0 → t .at < l-used)
+
+-- and still is without the zeros of both
+pub going-on : {s t s′ t′ : Low} {z : ℕ} (k-used l-used : ℕ) → Without s s′ z → Without t t′ z → Going k-used l-used s t → Going k-used l-used s′ t′
+going-on k-used l-used v w = ⊎-map (still v k-used) (still w l-used)
+
 pub record State (k l k-out₀ k-out l-out : List ℕ) (s t : Low) (place : ℕ) : Type 0 where
   pub k-held : Held s
   pub l-held : Held t
+  -- both hold as many bits
+  pub level : s .bits ≡ t .bits
   pub k-long : length k-out ≡ length k-out₀
   pub l-long : length l-out ≡ length k-out₀
   pub turn : Turn (little k) (little l) (length k-out₀) (remaining k s) (remaining l t) (of k-out l-out) place
@@ -77,6 +87,7 @@ module _ {k l : List ℕ} {k-used l-used : ℕ} {k-out₀ l-out₀ : List ℕ} (
       record {
         k-held = record { few = omega arith; low = omega arith };
         l-held = record { few = omega arith; low = omega arith };
+        level = omega arith;
         k-long = refl;
         l-long = g .equal;
         turn =
@@ -84,12 +95,17 @@ module _ {k l : List ℕ} {k-used l-used : ℕ} {k-out₀ l-out₀ : List ℕ} (
             (start (little k) (little l) (length k-out₀) (g .fits) (of k-out₀ l-out₀) (g .cleared));
       }
 
+  some : (s t : Low) → Going k-used l-used s t → 0 < remaining k s + remaining l t
+  some s t going =
+      ⊎-elim (λ h. omega (arith, remaining-some k s k-used (g .k-bytes) (g .k-in-use) h))
+      (λ h. omega (arith, remaining-some l t l-used (g .l-bytes) (g .l-in-use) h)) going
+
   module _ {k-out l-out : List ℕ} {place : ℕ} where
     -- the low bits are filled up
-    pub refill : (s s′ t t′ : Low) → remaining k s′ ≡ remaining k s → Held s′ → remaining l t′ ≡ remaining l t → Held t′
+    pub refill : (s s′ t t′ : Low) → remaining k s′ ≡ remaining k s → Held s′ → remaining l t′ ≡ remaining l t → Held t′ → s′ .bits ≡ t′ .bits
         → State k l k-out₀ k-out l-out s t place → State k l k-out₀ k-out l-out s′ t′ place
-    refill s s′ t t′ e h f h′ st =
-        record { k-held = h; l-held = h′; k-long = st .k-long; l-long = st .l-long; turn = moved (sym e) (sym f) (st .turn) }
+    refill s s′ t t′ e h f h′ b st =
+        record { k-held = h; l-held = h′; level = b; k-long = st .k-long; l-long = st .l-long; turn = moved (sym e) (sym f) (st .turn) }
 
     pub finish : (s t : Low) → ((s .low ≡ 0) × (k-used ≤ s .at)) × ((t .low ≡ 0) × (l-used ≤ t .at)) → State k l k-out₀ k-out l-out s t place
         → (place ≡ length (joint (pos (little k)) (pos (little l)))) × ((r : Two) → of k-out l-out r ≡ filled (Column.row two r (joint (pos (little k)) (pos (little l)))) (of k-out₀ l-out₀ r))
@@ -101,17 +117,27 @@ module _ {k l : List ℕ} {k-used l-used : ℕ} {k-out₀ l-out₀ : List ℕ} (
         sizes P = refl
         sizes Q = g .equal
 
-    module _ (s t : Low) (going : (s .low ≡ 0 → s .at < k-used) ⊎ (t .low ≡ 0 → t .at < l-used)) (st : State k l k-out₀ k-out l-out s t place) where
-      some : ¬ (BothZero (pos (remaining k s)) (pos (remaining l t)))
-      some z =
-          ⊎-elim (λ h. omega (arith, ap up (z .0), remaining-some k s k-used (g .k-bytes) (g .k-in-use) h))
-          (λ h. omega (arith, ap up (z .1), remaining-some l t l-used (g .l-bytes) (g .l-in-use) h)) going
+    -- z zeros of both are skipped
+    pub skipped : (s t s′ t′ : Low) (z : ℕ) → Without s s′ z → Without t t′ z → Going k-used l-used s t
+        → State k l k-out₀ k-out l-out s t place → State k l k-out₀ k-out l-out s′ t′ (place + z)
+    skipped s t s′ t′ z v w going st =
+        record {
+          k-held = v .shifted .0;
+          l-held = w .shifted .0;
+          level = omega (arith, st .level, v .shifted .1 .1 .0, w .shifted .1 .1 .0);
+          k-long = st .k-long;
+          l-long = st .l-long;
+          turn =
+              skip (little k) (little l) (length k-out₀) (g .fits) z (remaining k s′) (remaining l t′) (some s′ t′ (going-on k-used l-used v w going))
+              (moved (remaining-shifted v k) (remaining-shifted w l) (st .turn));
+        }
 
+    module _ (s t : Low) (going : Going k-used l-used s t) (st : State k l k-out₀ k-out l-out s t place) where
       pub inside : place < length k-out₀
-      inside = room (little k) (little l) (length k-out₀) (g .fits) some (st .turn)
+      inside = room (little k) (little l) (length k-out₀) (g .fits) (some s t going) (st .turn)
 
       -- a column is stored
-      pub stored : (6 ≤ s .bits) → (6 ≤ t .bits) → (c d : ℤ) → c ≡ digit (pos (s .low % 64)) (pos (t .low % 64)) → d ≡ digit (pos (t .low % 64)) (pos (s .low % 64))
+      pub stored : 3 ≤ s .bits → 3 ≤ t .bits → (c d : ℤ) → c ≡ digit (pos (s .low % 64)) (pos (t .low % 64)) → d ≡ digit (pos (t .low % 64)) (pos (s .low % 64))
           → (b e : ℕ) → b ≡ byteOf c → e ≡ byteOf d → (s′ t′ : Low)
           → Held s′ × ((s′ .at ≡ s .at) × ((s′ .bits + 1 ≡ s .bits) × (pos (s′ .low) ≡ half (pos (s .low) -ℤ c))))
           → Held t′ × ((t′ .at ≡ t .at) × ((t′ .bits + 1 ≡ t .bits) × (pos (t′ .low) ≡ half (pos (t .low) -ℤ d))))
@@ -120,17 +146,18 @@ module _ {k l : List ℕ} {k-used l-used : ℕ} {k-out₀ l-out₀ : List ℕ} (
           record {
             k-held = h .0;
             l-held = h′ .0;
+            level = omega (arith, st .level, h .1 .1 .0, h′ .1 .1 .0);
             k-long = length-set k-out place b ∙ st .k-long;
             l-long = length-set l-out place e ∙ st .l-long;
             turn =
                 relaid sets
-                (store (little k) (little l) (length k-out₀) (g .fits) (of b e) (remaining k s′) (remaining l t′) some bytes
-                (next k l s t c x p q s′ (h .1)) (next l k t s d y q p t′ (h′ .1)) (st .turn));
+                (store (little k) (little l) (length k-out₀) (g .fits) (of b e) (remaining k s′) (remaining l t′) (some s t going) bytes
+                (next s t c x k l p q s′ (h .1)) (next t s d y l k q p t′ (h′ .1)) (st .turn));
           }
         where
           bytes : (r : Two) → of b e r ≡ byteOf (digit (of (pos (remaining k s)) (pos (remaining l t)) r) (of (pos (remaining l t)) (pos (remaining k s)) r))
-          bytes P = u ∙ ap byteOf (whole-digit k l s t c x p q)
-          bytes Q = v ∙ ap byteOf (whole-digit l k t s d y q p)
+          bytes P = u ∙ ap byteOf (whole-digit s t c x k l p q)
+          bytes Q = v ∙ ap byteOf (whole-digit t s d y l k q p)
 
           sets : (r : Two) → set (of k-out l-out r) place (of b e r) ≡ of (set k-out place b) (set l-out place e) r
           sets P = refl

@@ -1,19 +1,21 @@
 -- The turns of the column loop: the columns laid into the two buffers, followed by those of the remainders, are all columns.
-use mathlib.Core.Path.{_≡_, refl, sym, ap, subst, _∙_}
+use mathlib.Core.Path.{_≡_, refl, sym, ap, ap₂, subst, _∙_}
 use mathlib.Core.List.{List, [], _∷_, _++_, map-append, append-assoc, append-nil}
-use Prim.Native.Nat.{ℕ, _+_, _≤_, _<_}
+use Prim.Native.Nat.{ℕ, zero, suc, _+_, _*_, _^_, _≤_, _<_}
 use native.Mathlib.Omega.{arith}
 use lib.IntN.{ℤ, pos}
-use lib.ListN.{length, set, replicate, length-append, length-map}
+use lib.ListN.{length, set, replicate, length-append, length-map, length-replicate}
 use Rattle.digits.specs.Byte.{byteOf}
 use Rattle.digits.specs.Column as Column
+use Rattle.digits.specs.Integer.{up}
 use Rattle.digits.specs.Two as Two
-use Rattle.digits.specs.Two.{Two, P, of, two}
+use Rattle.digits.specs.Two.{Two, P, of, two, blankColumn}
 use Rattle.forms.specs.Joint.{joint, column, digit, rest}
 use Rattle.forms.specs.Joint.Rule.{BothZero, joint-unfold, joint-zero}
 use Rattle.forms.specs.Joint.Value.{column-digit}
+use Rattle.forms.specs.Joint.Zeros.{joint-zeros}
 use Rattle.recode.specs.Call.{filled}
-use Rattle.recode.proofs.Laid.{Laid, laid-none, laid-digit}
+use Rattle.recode.proofs.Laid.{Laid, laid-none, laid-zeros, laid-digit}
 
 -- done stands in the buffers, and the columns of k and l are still to come
 pub record Turn (k₀ l₀ n k l : ℕ) (out : Two → List ℕ) (place : ℕ) : Type 0 where
@@ -33,6 +35,14 @@ pub row-length : (r : Two) (cs : List Two.Column) → length (Column.row two r c
 unfolding Column.row
 row-length r cs = length-map cs (λ c. Two.digit c r)
 
+row-blank : (r : Two) (z : ℕ) → Column.row two r (replicate z blankColumn) ≡ replicate z (pos 0)
+unfolding Column.row
+row-blank r zero = refl
+row-blank r (suc z) = ap₂ _∷_ (Two.blank-digit blankColumn tt r) (row-blank r z)
+
+nonzero : (k l : ℕ) → 0 < k + l → ¬ (BothZero (pos k) (pos l))
+nonzero k l p z = omega (arith, ap up (z .0), ap up (z .1))
+
 -- the same buffers, written another way
 pub relaid : {k₀ l₀ n k l place : ℕ} {out out′ : Two → List ℕ} → ((r : Two) → out r ≡ out′ r) → Turn k₀ l₀ n k l out place → Turn k₀ l₀ n k l out′ place
 relaid {n = n} {place = place} e t =
@@ -51,11 +61,27 @@ module _ (k₀ l₀ n : ℕ) (fits : length (joint (pos k₀) (pos l₀)) ≤ n)
   unfolding Column.row
   start out e = record { done = []; laid = λ r. laid-none n (out r) (e r); whole = refl }
 
-  pub room : {k l place : ℕ} {out : Two → List ℕ} → ¬ (BothZero (pos k) (pos l)) → Turn k₀ l₀ n k l out place → place < n
-  room {k} {l} some t = omega (arith, bound t, ap length (joint-unfold (pos k) (pos l) some))
+  -- zero columns are skipped
+  pub skip : {place : ℕ} {out : Two → List ℕ} (z k l : ℕ) → 0 < k + l → Turn k₀ l₀ n (2 ^ z * k) (2 ^ z * l) out place → Turn k₀ l₀ n k l out (place + z)
+  skip {place} {out} z k l some t =
+      let more = joint-zeros z k l some in
+      let room : place + z ≤ n =
+      omega (arith, bound t, ap length more, length-append (replicate z blankColumn) (joint (pos k) (pos l)), length-replicate z blankColumn)
+      in
+      record {
+        done = t .done ++ replicate z blankColumn;
+        laid = λ r. rw (row-append, row-blank) (laid-zeros n (Column.row two r (t .done)) (out r) place z room (t .laid r));
+        whole =
+            t .whole
+            ∙ ap (λ (cs : List Two.Column). t .done ++ cs) more
+            ∙ sym (append-assoc (t .done) (replicate z blankColumn) (joint (pos k) (pos l)));
+      }
+
+  pub room : {k l place : ℕ} {out : Two → List ℕ} → 0 < k + l → Turn k₀ l₀ n k l out place → place < n
+  room {k} {l} some t = omega (arith, bound t, ap length (joint-unfold (pos k) (pos l) (nonzero k l some)))
 
   -- a column is stored
-  pub store : {k l place : ℕ} {out : Two → List ℕ} (b : Two → ℕ) (k′ l′ : ℕ) → ¬ (BothZero (pos k) (pos l))
+  pub store : {k l place : ℕ} {out : Two → List ℕ} (b : Two → ℕ) (k′ l′ : ℕ) → 0 < k + l
       → ((r : Two) → b r ≡ byteOf (digit (of (pos k) (pos l) r) (of (pos l) (pos k) r)))
       → pos k′ ≡ rest (pos k) (pos l) → pos l′ ≡ rest (pos l) (pos k) → Turn k₀ l₀ n k l out place
       → Turn k₀ l₀ n k′ l′ (λ r. set (out r) place (b r)) (place + 1)
@@ -71,7 +97,7 @@ module _ (k₀ l₀ n : ℕ) (fits : length (joint (pos k₀) (pos l₀)) ≤ n)
             (e r ∙ ap byteOf (sym (column-digit (pos k) (pos l) r))) (t .laid r));
         whole =
             t .whole
-            ∙ ap (λ (cs : List Two.Column). t .done ++ cs) (joint-unfold (pos k) (pos l) some ∙ rw (← f, ← g))
+            ∙ ap (λ (cs : List Two.Column). t .done ++ cs) (joint-unfold (pos k) (pos l) (nonzero k l some) ∙ rw (← f, ← g))
             ∙ sym (append-assoc (t .done) (column (pos k) (pos l) ∷ []) (joint (pos k′) (pos l′)));
       }
 

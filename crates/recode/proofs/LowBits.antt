@@ -1,14 +1,15 @@
 -- The laws of a remainder held as low bits and bytes: taking in the next four bytes, dropping zeros, and halving.
-use mathlib.Core.Path.{_≡_, refl, ap, _∙_}
+use mathlib.Core.Path.{_≡_, refl, sym, ap, _∙_}
 use mathlib.Core.Logic.{_≢_}
 use mathlib.Core.List.{List, [], _∷_}
 use Prim.Native.Nat.{ℕ, zero, suc, _+_, _-_, _*_, _/_, _%_, _^_, _≤_, _<_}
 use native.Mathlib.Nat.{mul-le-mul-left, lt-of-not-le, le-of-suc-le-suc, mul-div-cancel-left, pow-suc, zero-div}
-use native.Mathlib.Numerals.{sub-one}
+use native.Mathlib.Numerals.{add-one, sub-one}
 use native.Mathlib.Omega.{arith}
+use lib.Bits.{bitOr, or-mod, or-add-and, and-le-l, and-le-r}
 use lib.Count.{trailingZeros, under}
 use lib.ListN.{length, getD, drop, drop-of-length-le}
-use lib.Pow.{pow-add, pow-pos, pow-mono, shl-exact}
+use lib.Pow.{pow-add, pow-pos, pow-mono, shl-exact, split}
 use lib.IntN.{ℤ, pos, negsuc, natAbs, _-ℤ_, pos-ne-negsuc}
 use Rattle.digits.specs.Integer.{up, down, half}
 use Rattle.digits.specs.Integer.Parts.{difference, size}
@@ -64,21 +65,33 @@ odd-part (suc k) n p h = go (n % 2) refl (λ q. odd-part k (n / 2) q (omega arit
 abbrev pub Zeros : ℕ → ℕ → ℕ → Type 0
 Zeros b n z = (z ≤ b) × ((n ≡ 2 ^ z * (n / 2 ^ z)) × (z < b → n / 2 ^ z % 2 ≡ 1))
 
-within : (b n z q : ℕ) → 6 ≤ b → n ≤ 2 ^ b + 31 → n ≡ 2 ^ z * q → q % 2 ≡ 1 → z ≤ b
-within b n z q h l e o =
+within : (b n z q : ℕ) → n < 2 ^ (b + 1) → n ≡ 2 ^ z * q → q % 2 ≡ 1 → z ≤ b
+within b n z q l e o =
     le-of-suc-le-suc (lt-of-not-le {n = suc b} (λ (g : suc b ≤ z).
-    omega (arith, pow-mono {i = 6} {j = b} h, pow-mono {i = suc b} {j = z} g, mul-le-mul-left {m = 1} {n = q} (2 ^ z) (omega arith))))
+    omega (arith, add-one b, pow-mono {i = b + 1} {j = z} (omega arith), mul-le-mul-left {m = 1} {n = q} (2 ^ z) (omega arith))))
 
-pub trailing : (b n : ℕ) → 6 ≤ b → n ≤ 2 ^ b + 31 → n ≢ 0 → n < 2 ^ 64 → Zeros b n (trailingZeros 64 n)
-trailing b n h l p m = go (trailingZeros 64 n) (odd-part 64 n (omega arith) m)
+pub trailing : (b n : ℕ) → n < 2 ^ (b + 1) → n ≢ 0 → n < 2 ^ 64 → Zeros b n (trailingZeros 64 n)
+trailing b n l p m = go (trailingZeros 64 n) (odd-part 64 n (omega arith) m)
   where
     go : (z : ℕ) → (q : ℕ) × (n ≡ 2 ^ z * q) × (q % 2 ≡ 1) → Zeros b n z
     go z t =
         let quotient : n / 2 ^ z ≡ t .0 = ap (λ (k : ℕ). k / 2 ^ z) (t .1) ∙ mul-div-cancel-left (t .0) (pow-pos z) in
-        (within b n z (t .0) h l (t .1) (t .2), (rw quotient (t .1), λ _. rw quotient (t .2)))
+        (within b n z (t .0) l (t .1) (t .2), (rw quotient (t .1), λ _. rw quotient (t .2)))
 
 pub all-zeros : (b n : ℕ) → n ≡ 0 → Zeros b n b
 all-zeros b n e = rw e (omega arith, (rw zero-div (omega arith), λ l. absurd (omega arith)))
+
+-- low bits that are held with a carry fit one bit more
+pub one-bit-more : (b n : ℕ) → 5 ≤ b → n ≤ 2 ^ b + 31 → n < 2 ^ (b + 1)
+one-bit-more b n h l = omega (arith, pow-add 2 b 1, pow-mono {i = 5} {j = b} h)
+
+-- zeros below the bits of two numbers together are zeros of both
+pub shared-zeros : (a b z : ℕ) → bitOr a b ≡ 2 ^ z * (bitOr a b / 2 ^ z) → (a ≡ 2 ^ z * (a / 2 ^ z)) × (b ≡ 2 ^ z * (b / 2 ^ z))
+shared-zeros a b z e =
+    let x : ℕ = a % 2 ^ z in
+    let y : ℕ = b % 2 ^ z in
+    let none : bitOr x y ≡ 0 = sym (or-mod a b z) ∙ omega (arith, split (bitOr a b) z) in
+    omega (arith, split a z, split b z, or-add-and x y, and-le-l x y, and-le-r x y)
 
 -- dropping z zeros of b bits keeps the number within its bits
 shrunk : (b n z q k : ℕ) → n ≤ 2 ^ b + 31 → n ≡ 2 ^ z * q → k + z ≡ b → q ≤ 2 ^ k + 31

@@ -2,7 +2,7 @@
 use mathlib.Core.Path.{_≡_, refl, sym, ap, _∙_}
 use mathlib.Core.List.{List, [], _∷_}
 use Prim.Native.Nat.{ℕ, zero, suc, _+_, _-_, _*_, _/_, _%_, _^_, _≤_, _<_}
-use native.Mathlib.Nat.{mul-le-mul-left, pow-suc}
+use native.Mathlib.Nat.{mul-assoc, mul-le-mul-left, pow-suc, add-mul-mod-self-left}
 use native.Mathlib.Numerals.{add-one}
 use native.Mathlib.Omega.{arith}
 use lib.IntN.{ℤ, pos, negsuc, _-ℤ_}
@@ -14,11 +14,8 @@ use Rattle.digits.specs.Integer.{up, down, half}
 use Rattle.digits.specs.Integer.Parts.{difference, one-side}
 use Rattle.digits.specs.Scalar.Length.{below-length, length-least}
 use Rattle.digits.specs.Scalar.{little, bitLength}
-use Rattle.forms.specs.Row.Digit.{digit-mod}
-use Rattle.forms.specs.Residue.{width}
-use Rattle.forms.specs.Row.{digit}
 use Rattle.recode.specs.declared.low.Low.{Low}
-use Rattle.recode.specs.Body.Remainder.{remaining}
+use Rattle.recode.specs.Body.Remainder.{remaining, Held}
 use Rattle.recode.proofs.LowBits.{half-parts}
 
 pub remaining-new : (bytes : List ℕ) (s : Low) → (s .at ≡ 0) × ((s .bits ≡ 0) × (s .low ≡ 0)) → remaining bytes s ≡ little bytes
@@ -30,12 +27,24 @@ remaining-new bytes s e =
     ∙ omega arith
 
 -- without z zeros
-pub remaining-shifted : (bytes : List ℕ) (s t : Low) (z : ℕ) → s .low ≡ 2 ^ z * (s .low / 2 ^ z) → t .at ≡ s .at → t .bits + z ≡ s .bits → t .low ≡ s .low / 2 ^ z
-    → remaining bytes s ≡ 2 ^ z * remaining bytes t
-unfolding remaining
-remaining-shifted bytes s t z e a b l =
-    let power : 2 ^ s .bits ≡ 2 ^ z * 2 ^ t .bits = ap (λ (n : ℕ). 2 ^ n) (sym b) ∙ pow-add 2 (t .bits) z ∙ omega arith in
-    rw (power, a, l) (omega (arith, e))
+pub record Without (s t : Low) (z : ℕ) : Type 0 where
+  pub zeros : s .low ≡ 2 ^ z * (s .low / 2 ^ z)
+  pub shifted : Held t × ((t .at ≡ s .at) × ((t .bits + z ≡ s .bits) × (t .low ≡ s .low / 2 ^ z)))
+
+module _ {s t : Low} {z : ℕ} (w : Without s t z) where
+  pub remaining-shifted : (bytes : List ℕ) → remaining bytes s ≡ 2 ^ z * remaining bytes t
+  unfolding remaining
+  remaining-shifted bytes =
+      let h = w .shifted .1 in
+      let power : 2 ^ s .bits ≡ 2 ^ z * 2 ^ t .bits = ap (λ (n : ℕ). 2 ^ n) (sym (h .1 .0)) ∙ pow-add 2 (t .bits) z ∙ omega arith in
+      rw (power, h .0, h .1 .1) (omega (arith, w .zeros))
+
+  -- and something is still left
+  pub still : (used : ℕ) → (s .low ≡ 0 → s .at < used) → t .low ≡ 0 → t .at < used
+  still used going n =
+      let h = w .shifted .1 in
+      let none : s .low ≡ 0 = w .zeros ∙ ap (λ (q : ℕ). 2 ^ z * q) (sym (h .1 .1) ∙ n) ∙ omega arith in
+      omega (arith, h .0, going none)
 
 -- the bytes from a place on: 0 where the number ends below it, and not 0 where it does not
 none-above : (bytes : List ℕ) (at : ℕ) → little bytes < 256 ^ at → little (drop at bytes) ≡ 0
@@ -78,16 +87,12 @@ remaining-some bytes s used b u e = go (s .low) refl
         omega (arith, mul-le-mul-left (2 ^ s .bits) more, pow-pos (s .bits))
     go (suc n) f = omega arith
 
--- at least 6 low bits give the digit
-module _ (bytes : List ℕ) (s : Low) (bits : 6 ≤ s .bits) where
-  pub sixty-four : remaining bytes s % 64 ≡ s .low % 64
-  unfolding remaining
-  sixty-four =
-      let power : 2 ^ s .bits ≡ 64 * 2 ^ (s .bits - 6) = ap (λ (n : ℕ). 2 ^ n) (omega arith) ∙ pow-add 2 6 (s .bits - 6) in
-      rw power (omega arith)
-
-  pub digit-low : (m : ℕ) → 1 ≤ m → width m ≤ 6 → digit m (pos (remaining bytes s)) ≡ digit m (pos (s .low))
-  digit-low m h l = digit-mod m 6 (pos (remaining bytes s)) (pos (s .low)) h l sixty-four
+-- the remainder by a power of two that the low bits reach is theirs
+pub low-bits : (bytes : List ℕ) (s : Low) (w : ℕ) → w ≤ s .bits → remaining bytes s % 2 ^ w ≡ s .low % 2 ^ w
+unfolding remaining
+low-bits bytes s w h =
+    let power : 2 ^ s .bits ≡ 2 ^ w * 2 ^ (s .bits - w) = ap (λ (n : ℕ). 2 ^ n) (omega arith) ∙ pow-add 2 w (s .bits - w) in
+    rw (power, mul-assoc, add-mul-mod-self-left)
 
 -- less a digit and halved
 half-is : (z : ℤ) (k : ℕ) → down z ≡ 0 → 2 * k ≤ up z → up z ≤ 2 * k + 1 → pos k ≡ half z

@@ -1,7 +1,7 @@
 -- One turn of the row loop over plain values: the state that the loop keeps, and what each kind of turn makes of it.
 use mathlib.Core.Path.{_≡_, refl, sym, ap, subst, _∙_}
 use mathlib.Core.List.{List}
-use Prim.Native.Nat.{ℕ, zero, suc, _+_, _*_, _/_, _%_, _^_, _≤_, _<_}
+use Prim.Native.Nat.{ℕ, zero, suc, _+_, _*_, _%_, _^_, _≤_, _<_}
 use native.Mathlib.Omega.{arith}
 use lib.IntN.{ℤ, pos, natAbs, _-ℤ_}
 use lib.ListN.{length, set, replicate, length-set}
@@ -18,7 +18,7 @@ use Rattle.forms.specs.Residue.Width.{width-least}
 use Rattle.recode.specs.declared.low.Low.{Low}
 use Rattle.recode.specs.Call.{filled}
 use Rattle.recode.specs.Body.Remainder.{remaining, Held}
-use Rattle.recode.proofs.LowRemainder.{Used, remaining-new, remaining-shifted, remaining-zero, remaining-some, remaining-less, digit-low}
+use Rattle.recode.proofs.LowRemainder.{Used, Without, remaining-new, remaining-shifted, remaining-zero, remaining-some, remaining-less, low-bits}
 use Rattle.recode.proofs.RowTurns.{Turn, start, skip, store, stop, room, bound}
 
 -- what holds throughout the loop
@@ -75,23 +75,17 @@ module _ {bytes : List ℕ} {used m : ℕ} {out₀ : List ℕ} (g : Given bytes 
       some = remaining-some bytes s used (g .are-bytes) (g .in-use) going
 
       -- z zeros are skipped
-      pub skipped : (t : Low) (z : ℕ) → s .low ≡ 2 ^ z * (s .low / 2 ^ z) → Held t × ((t .at ≡ s .at) × ((t .bits + z ≡ s .bits) × (t .low ≡ s .low / 2 ^ z)))
-          → State bytes m out₀ out t (place + z)
-      skipped t z e h =
-          let less = remaining-shifted bytes s t z e (h .1 .0) (h .1 .1 .0) (h .1 .1 .1) in
+      pub skipped : (t : Low) (z : ℕ) → Without s t z → State bytes m out₀ out t (place + z)
+      skipped t z w =
+          let less = remaining-shifted w bytes in
           let more : 0 < remaining bytes t = positive z (remaining bytes t) (subst (λ (n : ℕ). 0 < n) less some) in (
-            h .0,
+            w .shifted .0,
             (
               st .1 .0,
               skip m (little bytes) (length out₀) (g .one) (g .fits) z (remaining bytes t) more
                   (subst (λ (r : ℕ). Turn m (little bytes) (length out₀) r out place) less (st .1 .1)),
             ),
           )
-
-      -- and something is still left
-      pub still : (t : Low) (z : ℕ) → s .low ≡ 2 ^ z * (s .low / 2 ^ z) → t .at ≡ s .at → t .low ≡ s .low / 2 ^ z → t .low ≡ 0 → t .at < used
-      still t z e a l n =
-          let none : s .low ≡ 0 = e ∙ ap (λ (q : ℕ). 2 ^ z * q) (sym l ∙ n) ∙ omega arith in omega (arith, going none)
 
       narrow : width m ≤ 6
       narrow = width-least m (g .one) .1 6 (omega (arith, g .most))
@@ -116,7 +110,7 @@ module _ {bytes : List ℕ} {used m : ℕ} {out₀ : List ℕ} (g : Given bytes 
         pub stored : (t : Low) (b : ℕ) → b ≡ byteOf d → Held t × ((t .at ≡ s .at) × ((t .bits + 1 ≡ s .bits) × (pos (t .low) ≡ half (pos (s .low) -ℤ d))))
             → State bytes m out₀ (set out place b) t (place + 1)
         stored t b e h =
-            let same = is ∙ sym (digit-low bytes s bits m (g .one) narrow) in (
+            let same = is ∙ sym (digit-mod m 6 (pos (remaining bytes s)) (pos (s .low)) (g .one) narrow (low-bits bytes s 6 bits)) in (
               h .0,
               (
                 length-set out place b ∙ st .1 .0,

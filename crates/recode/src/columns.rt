@@ -1,7 +1,7 @@
 ghost use mathlib.Core.Path.{_≡_};
 ghost use mathlib.Core.Bool.{true, false};
 ghost use mathlib.Core.Logic.{_⊎_};
-ghost use Prim.Native.Nat.{_+_, _*_, _/_, _<_, _≤_, max};
+ghost use Prim.Native.Nat.{_+_, _*_, _/_, _^_, _<_, _≤_, max};
 ghost use lib.IntN.{pos};
 ghost use lib.ListN.{length, replicate};
 ghost use Rattle.digits.specs.Column;
@@ -10,6 +10,7 @@ ghost use Rattle.digits.specs.Scalar;
 ghost use Rattle.digits.specs.Scalar.{little, bitLength};
 ghost use Rattle.digits.specs.Two.{P, Q, two};
 ghost use Rattle.forms.specs.Joint;
+ghost use Rattle.recode.specs.Body.Remainder.{Held};
 ghost use Rattle.recode.specs.Call.{number, jointQuestion, jointAnswer, jointBuffer, JointPromised, filled};
 use crate::answer::Recoded;
 use crate::low::Low;
@@ -39,6 +40,14 @@ fn both_ended(k: Low, l: Low, k_used: usize, l_used: usize) -> bool
     false
 }
 
+// How many zeros stand below the lowest one of either number: all of the low bits where both are 0.
+fn both_zeros(k: Low, l: Low) -> u32
+    requires { ⌜ (Held k × Held l) × ((k .bits ≡ l .bits) × (16 ≤ k .bits)) ⌝ }
+    ensures { λ r. ⌜ (r ≤ k .bits) × ((k .low ≡ 2 ^ r * (k .low / 2 ^ r)) × (l .low ≡ 2 ^ r * (l .low / 2 ^ r))) ⌝ }
+{
+    crate::low::zeros_of(k.low | l.low, k.bits)
+}
+
 // Writes the joint columns of two numbers' bytes into places that hold 0, and returns how many there are. `k_used` and
 // `l_used` count the bytes up to the top one that is not 0.
 fn write_columns(
@@ -65,14 +74,23 @@ fn write_columns(
         if both_ended(k_full, l_full, k_used, l_used) {
             return place;
         }
-        let x = k_full.lowest();
-        let y = l_full.lowest();
+        let zeros = both_zeros(k_full, l_full);
+        let k_odd = k_full.shifted(zeros);
+        let l_odd = l_full.shifted(zeros);
+        place += zeros as usize;
+        if k_odd.bits < 3 {
+            k_low = k_odd;
+            l_low = l_odd;
+            continue;
+        }
+        let x = k_odd.lowest();
+        let y = l_odd.lowest();
         let k_digit = joint_digit(x, y);
         let l_digit = joint_digit(y, x);
         k_out[place] = digits::byte_of(k_digit as i8);
         l_out[place] = digits::byte_of(l_digit as i8);
-        let k_next = k_full.less(k_digit);
-        let l_next = l_full.less(l_digit);
+        let k_next = k_odd.less(k_digit);
+        let l_next = l_odd.less(l_digit);
         k_low = k_next;
         l_low = l_next;
         place += 1;

@@ -1,5 +1,5 @@
 ghost use mathlib.Core.Path.{_≡_};
-ghost use Prim.Native.Nat.{ℕ, _+_, _*_, _/_, _%_, _^_, _<_, _≤_};
+ghost use Prim.Native.Nat.{ℕ, _+_, _-_, _*_, _/_, _%_, _^_, _<_, _≤_};
 ghost use lib.ListN.{length, getD, drop};
 ghost use lib.IntN.{pos, natAbs, _-ℤ_};
 ghost use Rattle.digits.specs.Integer.{half};
@@ -34,6 +34,14 @@ fn word_at(bytes: &[u8], at: usize) -> u64
     first + 65536 * second
 }
 
+// How many zeros stand below the lowest one of a number that has `bits` bits and perhaps a carry: all of them where it is 0.
+pub fn zeros_of(n: u64, bits: u32) -> u32
+    requires { ⌜ (bits ≤ 47) × (n < 2 ^ (bits + 1)) ⌝ }
+    ensures { λ r. ⌜ (r ≤ bits) × ((n ≡ 2 ^ r * (n / 2 ^ r)) × (r < bits → n / 2 ^ r % 2 ≡ 1)) ⌝ }
+{
+    if n == 0 { bits } else { u64::trailing_zeros(n) }
+}
+
 impl Low {
     // No bits taken yet.
     pub fn new() -> Self
@@ -46,10 +54,10 @@ impl Low {
         }
     }
 
-    // The same remainder with at least 16 low bits.
+    // The same remainder with at least 16 low bits: 32 more where there are fewer.
     pub fn filled(self, bytes: &[u8]) -> Self
         requires { ⌜ Held self ⌝ }
-        ensures { λ r. ⌜ (remaining (now (bytes .entry)) r ≡ remaining (now (bytes .entry)) self) × (Held r × (16 ≤ r .bits)) ⌝ }
+        ensures { λ r. ⌜ (remaining (now (bytes .entry)) r ≡ remaining (now (bytes .entry)) self) × (Held r × ((16 ≤ r .bits) × (r .bits ≡ self .bits + 32 * (1 - self .bits / 16)))) ⌝ }
     {
         let at = self.at;
         let bits = self.bits;
@@ -83,12 +91,7 @@ impl Low {
         requires { ⌜ Held self × (16 ≤ self .bits) ⌝ }
         ensures { λ r. ⌜ (r ≤ self .bits) × ((self .low ≡ 2 ^ r * (self .low / 2 ^ r)) × (r < self .bits → self .low / 2 ^ r % 2 ≡ 1)) ⌝ }
     {
-        let low = self.low;
-        if low == 0 {
-            self.bits
-        } else {
-            u64::trailing_zeros(low)
-        }
+        zeros_of(self.low, self.bits)
     }
 
     // The remainder without its lowest zeros.

@@ -18,7 +18,8 @@ use Rattle.forms.specs.Joint.{digit}
 use Rattle.forms.specs.Test.{rows}
 use Rattle.recode.specs.declared.low.Low.{Low}
 use Rattle.recode.specs.Body.Remainder.{Held}
-use Rattle.recode.proofs.JointLoop.{Given, State, begin, refill, finish, inside, small, halved, stored}
+use Rattle.recode.proofs.LowRemainder.{Without}
+use Rattle.recode.proofs.JointLoop.{Given, Going, State, begin, refill, finish, going-on, skipped, inside, small, halved, stored}
 use Rattle.recode.proofs.columns.write_columns.Statement.{statement}
 use Rattle.recode.proofs.columns.write_columns.Tie as tie
 
@@ -29,26 +30,35 @@ Inv-loop k l k-used l-used k-out₀ l-out₀ k-low₀ l-low₀ place₀ k-out l-
 abbrev μ-loop : tie.MeasureT-loop
 μ-loop k l k-used l-used k-out₀ l-out₀ k-low₀ l-low₀ place₀ k-out l-out k-low l-low place = length k-out - place
 
+-- the arguments, and what holds throughout the loop
+abbrev asked : tie.After-new2 Inv-loop μ-loop → tie.Start Inv-loop μ-loop
+asked c = c .before .before .before .before .before .before
+
 module _ (c : tie.After-new2 Inv-loop μ-loop) where
-  given : Given (c .before .before .before .before .before .before .args .k .now) (c .before .before .before .before .before .before .args .l .now) (c .before .before .before .before .before .before .args .k-used) (c .before .before .before .before .before .before .args .l-used) (c .before .before .before .before .before .before .args .k-out .now) (c .before .before .before .before .before .before .args .l-out .now)
+  given : Given (asked c .args .k .now) (asked c .args .l .now) (asked c .args .k-used) (asked c .args .l-used) (asked c .args .k-out .now) (asked c .args .l-out .now)
   given =
-      let p = c .before .before .before .before .before .before .pre in
+      let p = asked c .pre in
       record {
         k-bytes = λ i. c .before .before .before .before .before .shared-slice-known .given i .fits;
         l-bytes = λ i. c .before .before .before .before .shared-slice-known2 .given i .fits;
         k-in-use = p .0 .0;
         l-in-use = p .0 .1;
-        cleared = rows (λ (r : Two). of (c .before .before .before .before .before .before .args .k-out .now) (c .before .before .before .before .before .before .args .l-out .now) r ≡ replicate (length (c .before .before .before .before .before .before .args .k-out .now)) 0) (p .1 .0 .0, p .1 .0 .1);
-        equal = ap length (p .1 .0 .1) ∙ length-replicate (length (c .before .before .before .before .before .before .args .k-out .now)) 0;
+        cleared = rows (λ (r : Two). of (asked c .args .k-out .now) (asked c .args .l-out .now) r ≡ replicate (length (asked c .args .k-out .now)) 0) (p .1 .0 .0, p .1 .0 .1);
+        equal = ap length (p .1 .0 .1) ∙ length-replicate (length (asked c .args .k-out .now)) 0;
         fits = p .1 .1;
       }
 
--- the state once the low bits are filled up
-module _ (c : tie.After-filled2 Inv-loop μ-loop) where
-  full : State (c .before .before .before .before .before .before .before .before .before .args .k .now) (c .before .before .before .before .before .before .before .before .before .args .l .now) (c .before .before .before .before .before .before .before .before .before .args .k-out .now) (c .before .before .loop .k-out) (c .before .before .loop .l-out) (c .before .filled .result) (c .filled2 .result) (c .before .before .loop .place)
-  full =
-      refill (given (c .before .before .before)) (c .before .before .loop .k-low) (c .before .filled .result) (c .before .before .loop .l-low) (c .filled2 .result) (c .before .filled .ensures .0)
-      (c .before .filled .ensures .1 .0) (c .filled2 .ensures .0) (c .filled2 .ensures .1 .0) (c .before .before .loop .inv)
+-- the state at a place of a turn
+abbrev Standing : tie.At-loop Inv-loop μ-loop → Low → Low → ℕ → Type 0
+Standing c s t place =
+    let a = asked (c .before) .args in State (a .k .now) (a .l .now) (a .k-out .now) (c .loop .k-out) (c .loop .l-out) s t place
+
+-- once the low bits are filled up
+full : (c : tie.After-filled2 Inv-loop μ-loop) → Standing (c .before .before) (c .before .filled .result) (c .filled2 .result) (c .before .before .loop .place)
+full c =
+    let a = c .before .before in
+    refill (given (a .before)) (a .loop .k-low) (c .before .filled .result) (a .loop .l-low) (c .filled2 .result) (c .before .filled .ensures .0)
+    (c .before .filled .ensures .1 .0) (c .filled2 .ensures .0) (c .filled2 .ensures .1 .0) (omega (arith, a .loop .inv .level)) (a .loop .inv)
 
 -- a digit of −1, 0 or 1, which the machine reads back as it is
 module _ (d : ℤ) (h : natAbs d ≤ 1) where
@@ -65,7 +75,7 @@ module _ (d : ℤ) (h : natAbs d ≤ 1) where
   as-byte = ap (λ (x : ℤ). toZ w8 (ofZ w8 x)) same ∙ toZ-ofZ fits-byte
 
   -- what `less` asks of it, and what it says
-  less-asks : (s : Low) → Held s → 16 ≤ s .bits → (k : ℕ) × (half (pos (s .low) -ℤ d) ≡ pos k)
+  less-asks : (s : Low) → Held s → 3 ≤ s .bits → (k : ℕ) × (half (pos (s .low) -ℤ d) ≡ pos k)
       → Held s × ((1 ≤ s .bits) × ((natAbs (toZ w16 (ofZ w16 d)) ≤ 31) × ((k : ℕ) × (half (pos (s .low) -ℤ toZ w16 (ofZ w16 d)) ≡ pos k))))
   less-asks s g b k =
       (g, (omega arith, subst (λ (x : ℤ). (natAbs x ≤ 31) × ((k : ℕ) × (half (pos (s .low) -ℤ x) ≡ pos k))) (sym same) (omega arith, k)))
@@ -104,6 +114,63 @@ returns c =
     let e = finish (given (f .before .before .before)) (f .before .filled .result) (f .filled2 .result) (c .before .both-ended .ensures .0 (c .if1 .taken)) (full f) in
     (e .0, (e .1 P, e .1 Q))
 
+both-zeros-requires : tie.Need-both-zeros-requires Inv-loop μ-loop
+both-zeros-requires c κs =
+    let f = c .before .before in
+    ((f .before .filled .ensures .1 .0, f .filled2 .ensures .1 .0), (full f .level, f .before .filled .ensures .1 .1 .0))
+
+shifted-requires : tie.Need-shifted-requires Inv-loop μ-loop
+shifted-requires c κs =
+    (c .before .before .before .before .filled .ensures .1 .0, (c .both-zeros .ensures .0, c .both-zeros .ensures .1 .0))
+
+shifted-requires-2 : tie.Need-shifted-requires-2 Inv-loop μ-loop
+shifted-requires-2 c κs =
+    let z = c .before .both-zeros .ensures in
+    let f = c .before .before .before .before in
+    (f .filled2 .ensures .1 .0, (omega (arith, z .0, full f .level), z .1 .1))
+
+-- once the zeros of both are skipped
+abbrev filled-up : tie.After-shifted2 Inv-loop μ-loop → tie.After-filled2 Inv-loop μ-loop
+filled-up c = c .before .before .before .before .before
+
+abbrev turned : tie.After-shifted2 Inv-loop μ-loop → tie.At-loop Inv-loop μ-loop
+turned c = filled-up c .before .before
+
+module _ (c : tie.After-shifted2 Inv-loop μ-loop) where
+  k-without : Without (filled-up c .before .filled .result) (c .before .shifted .result) (c .before .before .both-zeros .result)
+  k-without = record { zeros = c .before .before .both-zeros .ensures .1 .0; shifted = c .before .shifted .ensures }
+
+  l-without : Without (filled-up c .filled2 .result) (c .shifted2 .result) (c .before .before .both-zeros .result)
+  l-without = record { zeros = c .before .before .both-zeros .ensures .1 .1; shifted = c .shifted2 .ensures }
+
+  going : Going (asked (turned c .before) .args .k-used) (asked (turned c .before) .args .l-used) (filled-up c .before .filled .result) (filled-up c .filled2 .result)
+  going = c .before .before .before .before .both-ended .ensures .1 (c .before .before .before .if1 .left)
+
+  some : Going (asked (turned c .before) .args .k-used) (asked (turned c .before) .args .l-used) (c .before .shifted .result) (c .shifted2 .result)
+  some = going-on (asked (turned c .before) .args .k-used) (asked (turned c .before) .args .l-used) k-without l-without going
+
+  odd : Standing (turned c) (c .before .shifted .result) (c .shifted2 .result) (turned c .loop .place + c .before .before .both-zeros .result)
+  odd =
+      skipped (given (turned c .before)) (filled-up c .before .filled .result) (filled-up c .filled2 .result) (c .before .shifted .result) (c .shifted2 .result)
+      (c .before .before .both-zeros .result) k-without l-without going (full (filled-up c))
+
+  within : turned c .loop .place + c .before .before .both-zeros .result < length (asked (turned c .before) .args .k-out .now)
+  within = inside (given (turned c .before)) (c .before .shifted .result) (c .shifted2 .result) some odd
+
+cast-place : tie.Need-cast-place Inv-loop μ-loop
+cast-place c = search needs
+
+add-place : tie.Need-add-place Inv-loop μ-loop
+add-place c = omega (arith, within c, asked (turned c .before) .good)
+
+loop-less : tie.Need-loop-less Inv-loop μ-loop
+loop-less c =
+    let h = c .before .before in
+    omega (arith, within h, odd h .k-long, c .if2 .taken, h .before .shifted .ensures .1 .1 .0, filled-up h .before .filled .ensures .1 .1 .0)
+
+loop-again : tie.Need-loop-again Inv-loop μ-loop
+loop-again c = odd (c .before .before)
+
 lowest-requires : tie.Need-lowest-requires Inv-loop μ-loop
 lowest-requires c κs = search needs
 
@@ -116,27 +183,25 @@ joint-digit-requires c κs = search needs
 joint-digit-requires-2 : tie.Need-joint-digit-requires-2 Inv-loop μ-loop
 joint-digit-requires-2 c κs = search needs
 
+-- the two digits of a column
+abbrev shifted-on : tie.After-joint-digit2 Inv-loop μ-loop → tie.After-shifted2 Inv-loop μ-loop
+shifted-on c = c .before .before .before .before .before .before
+
 module _ (c : tie.After-joint-digit2 Inv-loop μ-loop) where
-  k-digit : c .before .joint-digit .result ≡ digit (pos (c .before .before .before .before .before .before .before .filled .result .low % 64)) (pos (c .before .before .before .before .before .before .filled2 .result .low % 64))
+  k-digit : c .before .joint-digit .result ≡ digit (pos (shifted-on c .before .shifted .result .low % 64)) (pos (shifted-on c .shifted2 .result .low % 64))
   k-digit = c .before .joint-digit .ensures ∙ ap₂ (λ (x y : ℕ). digit (pos x) (pos y)) (c .before .before .before .lowest .ensures) (c .before .before .lowest2 .ensures)
 
-  l-digit : c .joint-digit2 .result ≡ digit (pos (c .before .before .before .before .before .before .filled2 .result .low % 64)) (pos (c .before .before .before .before .before .before .before .filled .result .low % 64))
+  l-digit : c .joint-digit2 .result ≡ digit (pos (shifted-on c .shifted2 .result .low % 64)) (pos (shifted-on c .before .shifted .result .low % 64))
   l-digit = c .joint-digit2 .ensures ∙ ap₂ (λ (x y : ℕ). digit (pos x) (pos y)) (c .before .before .lowest2 .ensures) (c .before .before .before .lowest .ensures)
 
   k-tiny : natAbs (c .before .joint-digit .result) ≤ 1
-  k-tiny =
-      let f = c .before .before .before .before .before .before in
-      small (f .before .before .before .before .before .before .before .before .before .args .k .now) (f .before .before .before .before .before .before .before .before .before .args .l .now) (f .before .filled .result) (f .filled2 .result) (c .before .joint-digit .result) k-digit
+  k-tiny = small (shifted-on c .before .shifted .result) (shifted-on c .shifted2 .result) (c .before .joint-digit .result) k-digit
 
   l-tiny : natAbs (c .joint-digit2 .result) ≤ 1
-  l-tiny =
-      let f = c .before .before .before .before .before .before in
-      small (f .before .before .before .before .before .before .before .before .before .args .l .now) (f .before .before .before .before .before .before .before .before .before .args .k .now) (f .filled2 .result) (f .before .filled .result) (c .joint-digit2 .result) l-digit
+  l-tiny = small (shifted-on c .shifted2 .result) (shifted-on c .before .shifted .result) (c .joint-digit2 .result) l-digit
 
-  within : c .before .before .before .before .before .before .before .before .loop .place < length (c .before .before .before .before .before .before .before .before .before .before .before .before .before .before .before .args .k-out .now)
-  within =
-      let f = c .before .before .before .before .before .before in
-      inside (given (f .before .before .before)) (f .before .filled .result) (f .filled2 .result) (c .before .before .before .before .before .both-ended .ensures .1 (c .before .before .before .before .if1 .left)) (full f)
+  enough : (3 ≤ shifted-on c .before .shifted .result .bits) × (3 ≤ shifted-on c .shifted2 .result .bits)
+  enough = omega (arith, c .before .before .before .before .if2 .left, odd (shifted-on c) .level)
 
 cast-byte-of : tie.Need-cast-byte-of Inv-loop μ-loop
 cast-byte-of c = cast-fits (c .before .joint-digit .result) (k-tiny c)
@@ -145,7 +210,7 @@ byte-of-requires : tie.Need-byte-of-requires Inv-loop μ-loop
 byte-of-requires c κs = search needs
 
 slice-write-k-out : tie.Need-slice-write-k-out Inv-loop μ-loop
-slice-write-k-out c = omega (arith, within (c .before), c .before .before .before .before .before .before .before .before .before .loop .inv .k-long)
+slice-write-k-out c = let h = shifted-on (c .before) in omega (arith, within h, odd h .k-long)
 
 cast-byte-of-2 : tie.Need-cast-byte-of-2 Inv-loop μ-loop
 cast-byte-of-2 c = cast-fits (c .before .joint-digit2 .result) (l-tiny (c .before))
@@ -154,35 +219,37 @@ byte-of-requires-2 : tie.Need-byte-of-requires-2 Inv-loop μ-loop
 byte-of-requires-2 c κs = search needs
 
 slice-write-l-out : tie.Need-slice-write-l-out Inv-loop μ-loop
-slice-write-l-out c = omega (arith, within (c .before .before), c .before .before .before .before .before .before .before .before .before .before .loop .inv .l-long)
+slice-write-l-out c = let h = shifted-on (c .before .before) in omega (arith, within h, odd h .l-long)
 
 less-requires : tie.Need-less-requires Inv-loop μ-loop
 less-requires c κs =
     let d = c .before .before in
-    let f = d .before .before .before .before .before .before in
-    less-asks (d .before .joint-digit .result) (k-tiny d) (f .before .filled .result) (f .before .filled .ensures .1 .0) (f .before .filled .ensures .1 .1)
-    (halved (f .before .before .before .before .before .before .before .before .before .args .k .now) (f .before .before .before .before .before .before .before .before .before .args .l .now) (f .before .filled .result) (f .filled2 .result) (d .before .joint-digit .result) (k-digit d))
+    let s = shifted-on d .before .shifted .result in
+    less-asks (d .before .joint-digit .result) (k-tiny d) s (odd (shifted-on d) .k-held) (enough d .0)
+    (halved s (shifted-on d .shifted2 .result) (d .before .joint-digit .result) (k-digit d))
 
 less-requires-2 : tie.Need-less-requires-2 Inv-loop μ-loop
 less-requires-2 c κs =
     let d = c .before .before .before in
-    let f = d .before .before .before .before .before .before in
-    less-asks (d .joint-digit2 .result) (l-tiny d) (f .filled2 .result) (f .filled2 .ensures .1 .0) (f .filled2 .ensures .1 .1)
-    (halved (f .before .before .before .before .before .before .before .before .before .args .l .now) (f .before .before .before .before .before .before .before .before .before .args .k .now) (f .filled2 .result) (f .before .filled .result) (d .joint-digit2 .result) (l-digit d))
+    let t = shifted-on d .shifted2 .result in
+    less-asks (d .joint-digit2 .result) (l-tiny d) t (odd (shifted-on d) .l-held) (enough d .1)
+    (halved t (shifted-on d .before .shifted .result) (d .joint-digit2 .result) (l-digit d))
 
-add-place : tie.Need-add-place Inv-loop μ-loop
-add-place c = omega (arith, within (c .before .before .before .before), c .before .before .before .before .before .before .before .before .before .before .before .before .before .before .before .before .before .before .before .good)
+add-place-2 : tie.Need-add-place-2 Inv-loop μ-loop
+add-place-2 c =
+    let h = shifted-on (c .before .before .before .before) in omega (arith, within h, asked (turned h .before) .good)
 
-loop-less : tie.Need-loop-less Inv-loop μ-loop
-loop-less c = simp length-set (omega (arith, within (c .before .before .before .before), c .before .before .before .before .before .before .before .before .before .before .before .before .loop .inv .k-long))
+loop-less-2 : tie.Need-loop-less-2 Inv-loop μ-loop
+loop-less-2 c =
+    let h = shifted-on (c .before .before .before .before) in simp length-set (omega (arith, within h, odd h .k-long))
 
-loop-again : tie.Need-loop-again Inv-loop μ-loop
-loop-again c =
+loop-again-2 : tie.Need-loop-again-2 Inv-loop μ-loop
+loop-again-2 c =
     let d = c .before .before .before .before in
-    let f = d .before .before .before .before .before .before in
-    let s = f .before .filled .result in
-    let t = f .filled2 .result in
-    stored (given (f .before .before .before)) s t (d .before .before .before .before .before .both-ended .ensures .1 (d .before .before .before .before .if1 .left)) (full f) (omega (arith, f .before .filled .ensures .1 .1)) (omega (arith, f .filled2 .ensures .1 .1))
+    let h = shifted-on d in
+    let s = h .before .shifted .result in
+    let t = h .shifted2 .result in
+    stored (given (turned h .before)) s t (some h) (odd h) (enough d .0) (enough d .1)
     (d .before .joint-digit .result) (d .joint-digit2 .result) (k-digit d) (l-digit d)
     (c .before .before .before .byte-of .result) (c .before .before .byte-of2 .result)
     (c .before .before .before .byte-of .ensures ∙ ap byteOf (as-byte (d .before .joint-digit .result) (k-tiny d)))
@@ -205,6 +272,13 @@ write-columns-spec =
     same-length
     same-length-2
     returns
+    both-zeros-requires
+    shifted-requires
+    shifted-requires-2
+    cast-place
+    add-place
+    loop-less
+    loop-again
     lowest-requires
     lowest-requires-2
     joint-digit-requires
@@ -217,6 +291,6 @@ write-columns-spec =
     slice-write-l-out
     less-requires
     less-requires-2
-    add-place
-    loop-less
-    loop-again)
+    add-place-2
+    loop-less-2
+    loop-again-2)

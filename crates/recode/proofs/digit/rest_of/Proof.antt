@@ -1,9 +1,8 @@
--- `rest_of` meets its contract: x − digit is not negative, so the machine halves it as `half` does.
+-- `rest_of` meets its contract: x − digit is not negative, so the machine takes it as a natural number and halves it as `half` does.
 use mathlib.Core.Path.{_≡_, refl, sym, ap, ap₂, subst, _∙_}
 use Prim.Native.Nat.{ℕ, _+_, _/_, _^_, _<_, _≤_}
 use native.Mathlib.Omega.{arith}
 use lib.IntN.{ℤ, pos, negsuc, _-ℤ_, natAbs, pos-ne-negsuc}
-use lib.Signed.{quotZ}
 use mir.Syntax.{w16, w64}
 use mir.Val.{SFits, toZ, ofZ}
 use mir.Facts.{toZ-ofZ, toZ-pos}
@@ -42,15 +41,9 @@ module _ (x : ℕ) (d : ℤ) (hx : x ≤ 2 ^ 48) (hd : natAbs d ≤ 32) (half-is
   fits-whole : SFits w64 (toZ w64 x -ℤ toZ w64 (ofZ w64 (toZ w16 (ofZ w16 d))))
   fits-whole = subst (SFits w64) (sym subtracted) (fits-long (pos (natAbs (pos x -ℤ d))) (omega (arith, small)))
 
-  -- and what it divides is the half
-  divided : quotZ (toZ w64 (ofZ w64 (toZ w64 x -ℤ toZ w64 (ofZ w64 (toZ w16 (ofZ w16 d)))))) (pos 2) ≡ pos (natAbs (pos x -ℤ d) / 2)
-  divided = ap (λ (z : ℤ). quotZ z (pos 2)) (toZ-ofZ fits-whole ∙ subtracted)
-
-  fits-half : SFits w64 (quotZ (toZ w64 (ofZ w64 (toZ w64 x -ℤ toZ w64 (ofZ w64 (toZ w16 (ofZ w16 d)))))) (pos 2))
-  fits-half = subst (SFits w64) (sym divided) (fits-long (pos (natAbs (pos x -ℤ d) / 2)) (omega (arith, small)))
-
-  read : toZ w64 (ofZ w64 (quotZ (toZ w64 (ofZ w64 (toZ w64 x -ℤ toZ w64 (ofZ w64 (toZ w16 (ofZ w16 d)))))) (pos 2))) ≡ pos (natAbs (pos x -ℤ d) / 2)
-  read = toZ-ofZ fits-half ∙ divided
+  -- and reads back
+  read : toZ w64 (ofZ w64 (toZ w64 x -ℤ toZ w64 (ofZ w64 (toZ w16 (ofZ w16 d))))) ≡ pos (natAbs (pos x -ℤ d))
+  read = toZ-ofZ fits-whole ∙ subtracted
 
   halved : pos (natAbs (pos x -ℤ d) / 2) ≡ half (pos x -ℤ d)
   unfolding half
@@ -65,10 +58,6 @@ cast-result-2 c = let p = c .pre in long (c .args .x) _ (p .0) (p .1 .0) (p .1 .
 sub-result : tie.Need-sub-result
 sub-result c = let p = c .pre in fits-whole (c .args .x) _ (p .0) (p .1 .0) (p .1 .1) (c .fits .digit)
 
-div-result : tie.Need-div-result
-div-result c =
-    let p = c .pre in (omega arith, fits-half (c .args .x) _ (p .0) (p .1 .0) (p .1 .1) (c .fits .digit))
-
 cast-result-3 : tie.Need-cast-result-3
 cast-result-3 c =
     let p = c .pre in
@@ -77,8 +66,8 @@ cast-result-3 c =
 returns : tie.Need-returns
 returns c =
     let p = c .pre in
-    ap (λ (z : ℤ). pos (natAbs z)) (read (c .args .x) _ (p .0) (p .1 .0) (p .1 .1) (c .fits .digit))
+    ap (λ (z : ℤ). pos (natAbs z / 2)) (read (c .args .x) _ (p .0) (p .1 .0) (p .1 .1) (c .fits .digit))
     ∙ halved (c .args .x) _ (p .0) (p .1 .0) (p .1 .1) (c .fits .digit)
 
 pub rest-of-spec : {M : Type 1} → statement M
-rest-of-spec = tie.close (tie.spec cast-result cast-result-2 sub-result div-result cast-result-3 returns)
+rest-of-spec = tie.close (tie.spec cast-result cast-result-2 sub-result cast-result-3 returns)

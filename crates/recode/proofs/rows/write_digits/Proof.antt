@@ -15,7 +15,8 @@ use Rattle.digits.specs.Integer.Parts.{size, mag-size}
 use Rattle.digits.specs.Integer.Machine.{read-back}
 use Rattle.forms.specs.Row.{digit}
 use Rattle.recode.specs.Body.Remainder.{Held}
-use Rattle.recode.proofs.RowLoop.{Given, State, begin, refill, finish, skipped, still, inside, small, halved, stored, reached}
+use Rattle.recode.proofs.LowRemainder.{Without, still}
+use Rattle.recode.proofs.RowLoop.{Given, State, begin, refill, finish, skipped, inside, small, halved, stored, reached}
 use Rattle.recode.proofs.rows.write_digits.Statement.{statement}
 use Rattle.recode.proofs.rows.write_digits.Tie as tie
 
@@ -65,7 +66,7 @@ returns c =
     finish (given (f .before .before)) (f .filled .result) (c .before .ended .ensures .0 (c .if1 .taken)) (full f)
 
 zeros-requires : tie.Need-zeros-requires Inv-loop μ-loop
-zeros-requires c κs = c .before .before .filled .ensures .1
+zeros-requires c κs = let e = c .before .before .filled .ensures in (e .1 .0, e .1 .1 .0)
 
 shifted-requires : tie.Need-shifted-requires Inv-loop μ-loop
 shifted-requires c κs = (c .before .before .before .filled .ensures .1 .0, (c .zeros .ensures .0, c .zeros .ensures .1 .0))
@@ -75,15 +76,16 @@ module _ (c : tie.After-shifted Inv-loop μ-loop) where
   going : c .before .before .before .before .filled .result .low ≡ 0 → c .before .before .before .before .filled .result .at < c .before .before .before .before .before .before .before .before .before .args .used
   going = c .before .before .before .ended .ensures .1 (c .before .before .if1 .left)
 
+  without : Without (c .before .before .before .before .filled .result) (c .shifted .result) (c .before .zeros .result)
+  without = record { zeros = c .before .zeros .ensures .1 .0; shifted = c .shifted .ensures }
+
   odd : State (c .before .before .before .before .before .before .before .before .before .args .bytes .now) (c .before .before .before .before .before .before .before .before .before .args .m) (c .before .before .before .before .before .before .before .before .before .args .out .now) (c .before .before .before .before .before .loop .out) (c .shifted .result) (c .before .before .before .before .before .loop .place + c .before .zeros .result)
   odd =
       let f = c .before .before .before .before in
-      skipped (given (f .before .before)) (f .filled .result) going (full f) (c .shifted .result) (c .before .zeros .result) (c .before .zeros .ensures .1 .0) (c .shifted .ensures)
+      skipped (given (f .before .before)) (f .filled .result) going (full f) (c .shifted .result) (c .before .zeros .result) without
 
   going-on : c .shifted .result .low ≡ 0 → c .shifted .result .at < c .before .before .before .before .before .before .before .before .before .args .used
-  going-on =
-      let f = c .before .before .before .before in
-      still (given (f .before .before)) (f .filled .result) going (full f) (c .shifted .result) (c .before .zeros .result) (c .before .zeros .ensures .1 .0) (c .shifted .ensures .1 .0) (c .shifted .ensures .1 .1 .1)
+  going-on = still without (c .before .before .before .before .before .before .before .before .before .args .used) going
 
   within : c .before .before .before .before .before .loop .place + c .before .zeros .result ≤ length (c .before .before .before .before .before .loop .out)
   within = reached (given (c .before .before .before .before .before .before)) (c .shifted .result) odd
