@@ -1,6 +1,7 @@
 -- The laws that the proofs of the functions cite.
 pub mod Puts
-pub mod Signs
+pub mod Drafts
+pub mod DigitBytes
 pub mod Hexadecimal
 pub mod StepBytes
 pub mod TableBytes

@@ -1,11 +1,12 @@
 ghost use mathlib.Core.Path.{_≡_};
 ghost use mathlib.Core.List.{_∷_, []};
-ghost use Prim.Native.Nat.{_<_, _≤_};
+ghost use Prim.Native.Nat.{_%_, _<_, _≤_};
+ghost use lib.IntN.{natAbs};
 ghost use Rattle.sheet.specs.Numeral.{figure, numeral};
 ghost use Rattle.sheet.specs.Plan.{point};
 ghost use Rattle.sheet.specs.Spelling;
 ghost use Rattle.digits.specs.Byte.{signed};
-ghost use Rattle.writer.specs.Body.Parts.{Put, Room, pointLine};
+ghost use Rattle.writer.specs.Body.Parts.{Put, PutIf, Room, pointLine};
 
 // Each of these puts bytes at a place of the buffer, and returns the place behind them.
 
@@ -48,16 +49,45 @@ pub fn put_numeral(out: &mut [u8], at: usize, base: u32, n: u32) -> usize
     put_figure(out, next, n % base)
 }
 
+// A byte that is kept or not: where not, the place returned is its own, and the next put overwrites it.
+fn put_if(out: &mut [u8], at: usize, kept: bool, byte: u8) -> usize
+    requires { ⌜ Room (now out) at (byte ∷ []) ⌝ }
+    ensures { λ r. ⌜ PutIf (now (out .entry)) (now (out .exit)) at r kept byte ⌝ }
+{
+    out[at] = byte;
+    if kept { at + 1 } else { at }
+}
+
+// The size of a digit, without its sign.
+fn size(digit: u8) -> u32
+    ensures { λ r. ⌜ r ≡ natAbs (signed digit) ⌝ }
+{
+    if 128 <= digit {
+        256 - digit as u32
+    } else {
+        digit as u32
+    }
+}
+
+// What n has below its hundreds.
+fn below_hundred(n: u32) -> u32
+    requires { ⌜ n < 200 ⌝ }
+    ensures { λ r. ⌜ r ≡ n % 100 ⌝ }
+{
+    if 100 <= n { n - 100 } else { n }
+}
+
 // A digit, which is a byte in two's complement: a decimal, with a minus if negative.
 pub fn put_digit(out: &mut [u8], at: usize, digit: u8) -> usize
     requires { ⌜ Room (now out) at (Spelling.digit (signed digit)) ⌝ }
     ensures { λ r. ⌜ Put (now (out .entry)) (now (out .exit)) at r (Spelling.digit (signed digit)) ⌝ }
 {
-    if digit < 128 {
-        return put_numeral(out, at, 10, digit as u32);
-    }
-    let next = put_byte(out, at, b'-');
-    put_numeral(out, next, 10, 256 - digit as u32)
+    let size = size(digit);
+    let rest = below_hundred(size);
+    let hundreds = put_if(out, at, 128 <= digit, b'-');
+    let tens = put_if(out, hundreds, 100 <= size, b'1');
+    let ones = put_if(out, tens, 10 <= size, (48 + rest / 10) as u8);
+    put_byte(out, ones, (48 + rest % 10) as u8)
 }
 
 // A line of a letter and a point.

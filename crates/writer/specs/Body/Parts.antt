@@ -1,10 +1,10 @@
 -- The bytes of the parts of a sheet, which the writer puts one behind another, and what a put leaves.
 use mathlib.Core.Path.{_≡_}
-use mathlib.Core.Bool.{Bool, true, false}
+use mathlib.Core.Bool.{Bool, true, false, cond}
 use mathlib.Core.List.{List, [], _∷_, _++_, map}
 use Prim.Native.Nat.{ℕ, zero, suc, _+_, _-_, _/_, _%_, _^_, _≤_, _<_}
 use lib.IntN.{pos}
-use lib.ListN.{length, getD}
+use lib.ListN.{length, set, getD}
 use lib.Seq.{sets}
 use Rattle.digits.specs.Byte.{signed}
 use Rattle.digits.specs.Limits.{card}
@@ -21,6 +21,11 @@ use Rattle.written.specs.Written.{digits}
 pub record Put (before after : List ℕ) (at next : ℕ) (bytes : List ℕ) : Type 0 where
   pub behind : next ≡ at + length bytes
   pub buffer : after ≡ sets before at bytes
+
+-- a byte was put at a place, and `next` is the place behind it if it is kept, and the same place if not
+pub record PutIf (before after : List ℕ) (at next : ℕ) (kept : Bool) (byte : ℕ) : Type 0 where
+  pub behind : next ≡ cond kept (suc at) at
+  pub buffer : after ≡ set before at byte
 
 -- there is room for bytes at a place
 pub record Room (out : List ℕ) (at : ℕ) (bytes : List ℕ) : Type 0 where
