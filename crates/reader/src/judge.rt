@@ -20,8 +20,8 @@ fn is_right(sheet: &[u8], p: &[u64], q: &[u64]) -> bool
     requires { ⌜ Clear (now sheet) × (ResultIn P (now sheet) Met (now p) × ResultIn Q (now sheet) Met (now q)) ⌝ }
     ensures { λ r. ⌜ unless r 1 ≡ wrong (heading (lines card (now (sheet .entry)))) (lines card (now (sheet .entry))) ⌝ }
 {
-    if sums::is(p, lines::head_field(sheet, 7)) {
-        return sums::is(q, lines::head_field(sheet, 8));
+    if crate::compare::is(p, lines::head_field(sheet, 7)) {
+        return crate::compare::is(q, lines::head_field(sheet, 8));
     }
     false
 }
@@ -41,9 +41,10 @@ fn result_question(sheet: &[u8], p: &[u64], q: &[u64]) -> Judgement
 pub fn read(sheet: &[u8]) -> Judgement
     ensures { λ r. ⌜ r ≡ judgement (answer card (now (sheet .entry))) ⌝ }
 {
-    let mut p = sums::empty();
-    let mut q = sums::empty();
-    let survey = survey::surveyed(sheet, &mut p, &mut q);
+    let reading = survey::surveyed(sheet);
+    let survey = reading.survey;
+    let p = reading.p;
+    let q = reading.q;
     match survey {
         Survey::Missed(number, line) => Judgement::Refused(number, line),
         Survey::Met => result_question(sheet, &p, &q),

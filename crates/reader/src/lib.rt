@@ -1,4 +1,5 @@
 // The reader: judges any sequence of bytes as a sheet.
+mod compare;
 mod judge;
 mod text;
 

@@ -38,5 +38,5 @@ pub fn rest_of(x: u64, digit: i16) -> u64
     requires { ⌜ (x ≤ 2 ^ 48) × ((natAbs digit ≤ 32) × ((k : ℕ) × (half (pos x -ℤ digit) ≡ pos k))) ⌝ }
     ensures { λ r. ⌜ pos r ≡ half (pos x -ℤ digit) ⌝ }
 {
-    (x as i64 - digit as i64) as u64 / 2
+    ((x as i64 - digit as i64) >> 1) as u64
 }

@@ -5,6 +5,7 @@ pub mod HeaderTurns
 pub mod PhaseTurns
 pub mod StateTurns
 pub mod Claim
+pub mod Digits
 pub mod TotalTurns
 pub mod ScanTurns
 pub mod Judged

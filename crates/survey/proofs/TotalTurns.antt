@@ -12,8 +12,8 @@ use Rattle.lines.specs.Coded.{signed, whole, codedPoint, coded}
 use Rattle.lines.specs.declared.point.Point as point-of
 use Rattle.lines.specs.declared.line.Line.the-variants.{Table, Double, End, Other}
 use Rattle.lines.proofs.Was.{was}
-use Rattle.sums.specs.Sum.{most, Holds, Added}
-use Rattle.sums.proofs.Digits.{holds-later}
+use Rattle.survey.specs.Sum.{most, Holds, Added}
+use Rattle.survey.proofs.Digits.{holds-later}
 use Rattle.survey.specs.Survey.Scan.{Summed}
 use Rattle.survey.specs.declared.state.State.{State}
 use Rattle.survey.specs.declared.scan.Scan as scan

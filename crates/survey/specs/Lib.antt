@@ -1,2 +1,3 @@
--- What the first pass answers, and what its state stands for.
+-- What the pass over a sheet answers, and what its state and its sums stand for.
+pub mod Sum
 pub mod Survey

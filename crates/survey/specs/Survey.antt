@@ -12,7 +12,7 @@ use Rattle.sheet.specs.Line.{Header, Line, header}
 use Rattle.sheet.specs.Spelling.{lines}
 use Rattle.sheet.specs.Questions.{result, wrong}
 use Rattle.sheet.specs.Answer.{Answer, accepted, refused, ask, heading, judged, answer}
-use Rattle.sums.specs.Sum.{most, Holds}
+use Rattle.survey.specs.Sum.{most, Holds}
 use Rattle.survey.specs.Survey.State.{claimedBy}
 use Rattle.survey.specs.Survey.Total.{total}
 use Rattle.survey.specs.declared.questions.Survey.{Survey}

@@ -1,6 +1,7 @@
 // The pass over a sheet: questions 5 to 10, and what its steps come to.
 mod fault;
 mod header;
+mod limbs;
 mod phase;
 mod questions;
 mod scan;
@@ -9,5 +10,8 @@ mod steps;
 mod table;
 mod totals;
 
+pub use limbs::LIMBS;
+pub use limbs::START;
+pub use questions::Reading;
 pub use questions::Survey;
 pub use questions::surveyed;

@@ -3,9 +3,10 @@ ghost use lib.IntN.{pos};
 ghost use Rattle.digits.specs.Two.{P, Q};
 ghost use Rattle.sheet.specs.Line as meant;
 ghost use Rattle.survey.specs.Survey.Scan.{Answered, Faultless};
-ghost use Rattle.sums.specs.Sum.{Holds};
+ghost use Rattle.survey.specs.Sum.{Holds};
 ghost use Rattle.survey.specs.Survey.{JudgedBy, Surveyed, ResultIn};
 use crate::fault::Fault;
+use crate::limbs::LIMBS;
 use crate::scan::Scan;
 use crate::state::State;
 use lines::Header;
@@ -18,6 +19,13 @@ const MOST_BYTES: usize = 16384;
 pub enum Survey {
     Missed(u32, usize),
     Met,
+}
+
+// The survey of a sheet, and its sums of P and of Q.
+pub struct Reading {
+    pub survey: Survey,
+    pub p: [u64; LIMBS],
+    pub q: [u64; LIMBS],
 }
 
 // Question 10: are both counts true?
@@ -60,7 +68,7 @@ fn questions(header: Header, state: State) -> Survey
 }
 
 // Questions 5 to 10. The sums are lent empty; where all questions are met, they hold the result.
-pub fn surveyed(sheet: &[u8], p: &mut [u64], q: &mut [u64]) -> Survey
+fn survey_into(sheet: &[u8], p: &mut [u64], q: &mut [u64]) -> Survey
     requires { ⌜ Holds 0 (now p) (pos 0) × Holds 0 (now q) (pos 0) ⌝ }
     ensures { λ r. ⌜ Surveyed (now (sheet .entry)) r ⌝ }
     ensures { λ r. ⌜ ResultIn P (now (sheet .entry)) r (now (p .exit)) ⌝ }
@@ -78,5 +86,20 @@ pub fn surveyed(sheet: &[u8], p: &mut [u64], q: &mut [u64]) -> Survey
     match scan {
         Scan::Met(state) => questions(header, state),
         Scan::Misplaced(line) => Survey::Missed(6, line as usize),
+    }
+}
+
+// Questions 5 to 10, and where they are met what the steps of the sheet come to.
+pub fn surveyed(sheet: &[u8]) -> Reading
+    ensures { λ r. ⌜ Surveyed (now (sheet .entry)) (r .survey) ⌝ }
+    ensures { λ r. ⌜ ResultIn P (now (sheet .entry)) (r .survey) (r .p) × ResultIn Q (now (sheet .entry)) (r .survey) (r .q) ⌝ }
+{
+    let mut p = crate::limbs::empty();
+    let mut q = crate::limbs::empty();
+    let survey = survey_into(sheet, &mut p, &mut q);
+    Reading {
+        survey: survey,
+        p: p,
+        q: q,
     }
 }

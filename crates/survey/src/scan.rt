@@ -6,7 +6,7 @@ ghost use Rattle.digits.specs.Limits.{card};
 ghost use Rattle.digits.specs.Two.{P, Q};
 ghost use Rattle.sheet.specs.declared.Plan.{Plan};
 ghost use Rattle.sheet.specs.Spelling.{lines};
-ghost use Rattle.sums.specs.Sum.{Holds};
+ghost use Rattle.survey.specs.Sum.{Holds};
 ghost use Rattle.survey.specs.Survey.State.{Counted};
 ghost use Rattle.survey.specs.Survey.Scan.{Scanned, Summed};
 use crate::phase::Phase;

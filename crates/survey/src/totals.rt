@@ -4,7 +4,7 @@ ghost use Rattle.digits.specs.Limits.{card};
 ghost use Rattle.digits.specs.Two.{P, Q};
 ghost use Rattle.sheet.specs.Line as meant;
 ghost use Rattle.lines.specs.Coded.{whole, coded};
-ghost use Rattle.sums.specs.Sum.{Roomy, Added};
+ghost use Rattle.survey.specs.Sum.{Roomy, Added};
 ghost use Rattle.survey.specs.Survey.Total.{Adds};
 use lines::Line;
 use lines::Point;
@@ -15,8 +15,8 @@ fn add_point(p: &mut [u64], q: &mut [u64], places: usize, t: Point)
     ensures { λ _. ⌜ Added places (whole (t .p)) (now (p .entry)) (now (p .exit)) ⌝ }
     ensures { λ _. ⌜ Added places (whole (t .q)) (now (q .entry)) (now (q .exit)) ⌝ }
 {
-    sums::add(p, places, t.p);
-    sums::add(q, places, t.q);
+    crate::limbs::add(p, places, t.p);
+    crate::limbs::add(q, places, t.q);
 }
 
 // The step of a line, added at its place; other lines add nothing.

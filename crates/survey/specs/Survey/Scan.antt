@@ -11,7 +11,7 @@ use Rattle.sheet.specs.Line.{Header, Line, plan, header}
 use Rattle.sheet.specs.Questions.{misplaced, offPlan, disallowed, excess, additions, doublings}
 use Rattle.lines.specs.Coded.{codedHeader}
 use Rattle.survey.specs.Survey.State.{found, misplacedFrom, offPlanFrom, disallowedIn, excessIn}
-use Rattle.sums.specs.Sum.{most, Holds}
+use Rattle.survey.specs.Sum.{most, Holds}
 use Rattle.survey.specs.Survey.Total.{total}
 use Rattle.lines.specs.declared.header.Header as header-of
 use Rattle.survey.specs.declared.state.State.{State}

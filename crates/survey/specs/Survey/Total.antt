@@ -4,7 +4,7 @@ use Prim.Native.Nat.{ℕ, suc, _-_, _^_}
 use lib.IntN.{ℤ, pos, _+ℤ_, _*ℤ_}
 use Rattle.digits.specs.Two.{Two, digit}
 use Rattle.sheet.specs.Line.{Line, header, table, load, double, add, end, misspelled}
-use Rattle.sums.specs.Sum.{Holds}
+use Rattle.survey.specs.Sum.{Holds}
 
 -- a D line takes one of the places to come, if there is any
 abbrev pub placesAfter : ℕ → Line → ℕ

@@ -8,18 +8,6 @@ use borrow.Author.Needs.{needs}
 use Rattle.reader.proofs.judge.read.Statement.{statement}
 use Rattle.reader.proofs.judge.read.Tie as tie
 
-empty-requires : tie.Need-empty-requires
-empty-requires c κs = search needs
-
-empty-requires-2 : tie.Need-empty-requires-2
-empty-requires-2 c κs = search needs
-
-slice-aggregate-surveyed : tie.Need-slice-aggregate-surveyed
-slice-aggregate-surveyed c = search needs
-
-slice-aggregate-surveyed-2 : tie.Need-slice-aggregate-surveyed-2
-slice-aggregate-surveyed-2 c = search needs
-
 surveyed-requires : tie.Need-surveyed-requires
 surveyed-requires c κs = search needs
 
@@ -37,13 +25,13 @@ slice-aggregate-result-question-2 c = search needs
 
 result-question-requires : tie.Need-result-question-requires
 result-question-requires c κs =
-    let s = c .before .before .before .before .before .before .before .before .before .before .before .before .args .sheet .now in
+    let s = c .before .before .before .before .before .before .before .before .args .sheet .now in
     let e = c .before .before .enum-told .given .1 in
-    let f = c .before .before .before .before .before .before .surveyed .ensures in
-    (subst (Surveyed s) e (f .0), (subst (λ (out : Survey). ResultIn P s out (c .before .before .before .before .before .before .surveyed .last .1 .0)) e (f .1 .0), subst (λ (out : Survey). ResultIn Q s out (c .before .before .before .before .before .before .surveyed .last .1 .1 .0)) e (f .1 .1)))
+    let r = c .before .before .before .before .before .before .surveyed in
+    (subst (Surveyed s) e (r .ensures .0), (subst (λ (out : Survey). ResultIn P s out (r .result .p)) e (r .ensures .1 .0), subst (λ (out : Survey). ResultIn Q s out (r .result .q)) e (r .ensures .1 .1)))
 
 returns : tie.Need-returns
-returns c = ap judgement (sym (subst (Surveyed (c .before .before .before .before .before .before .before .before .before .before .before .args .sheet .now)) (c .before .survey .given .1) (c .before .before .before .before .before .surveyed .ensures .0) .0))
+returns c = ap judgement (sym (subst (Surveyed (c .before .before .before .before .before .before .before .args .sheet .now)) (c .before .survey .given .1) (c .before .before .before .before .before .surveyed .ensures .0) .0))
 
 returns-2 : tie.Need-returns-2
 returns-2 c = search needs
@@ -52,10 +40,6 @@ pub read-spec : {M : Type 1} → statement M
 read-spec =
     tie.close
     (tie.spec
-    empty-requires
-    empty-requires-2
-    slice-aggregate-surveyed
-    slice-aggregate-surveyed-2
     surveyed-requires
     enum-known-survey
     enum-told

@@ -1,8 +1,9 @@
--- `rest_of` meets its contract: x − digit is not negative, so the machine takes it as a natural number and halves it as `half` does.
+-- `rest_of` meets its contract: x − digit is not negative, so the machine halves it as `half` does.
 use mathlib.Core.Path.{_≡_, refl, sym, ap, ap₂, subst, _∙_}
 use Prim.Native.Nat.{ℕ, _+_, _/_, _^_, _<_, _≤_}
 use native.Mathlib.Omega.{arith}
 use lib.IntN.{ℤ, pos, negsuc, _-ℤ_, natAbs, pos-ne-negsuc}
+use lib.Signed.{shrZ}
 use mir.Syntax.{w16, w64}
 use mir.Val.{SFits, toZ, ofZ}
 use mir.Facts.{toZ-ofZ, toZ-pos}
@@ -41,9 +42,15 @@ module _ (x : ℕ) (d : ℤ) (hx : x ≤ 2 ^ 48) (hd : natAbs d ≤ 32) (half-is
   fits-whole : SFits w64 (toZ w64 x -ℤ toZ w64 (ofZ w64 (toZ w16 (ofZ w16 d))))
   fits-whole = subst (SFits w64) (sym subtracted) (fits-long (pos (natAbs (pos x -ℤ d))) (omega (arith, small)))
 
-  -- and reads back
-  read : toZ w64 (ofZ w64 (toZ w64 x -ℤ toZ w64 (ofZ w64 (toZ w16 (ofZ w16 d))))) ≡ pos (natAbs (pos x -ℤ d))
-  read = toZ-ofZ fits-whole ∙ subtracted
+  -- and what it shifts is the half
+  shifted : shrZ (toZ w64 (ofZ w64 (toZ w64 x -ℤ toZ w64 (ofZ w64 (toZ w16 (ofZ w16 d)))))) 2 ≡ pos (natAbs (pos x -ℤ d) / 2)
+  shifted = ap (λ (z : ℤ). shrZ z 2) (toZ-ofZ fits-whole ∙ subtracted)
+
+  fits-half : SFits w64 (shrZ (toZ w64 (ofZ w64 (toZ w64 x -ℤ toZ w64 (ofZ w64 (toZ w16 (ofZ w16 d)))))) 2)
+  fits-half = subst (SFits w64) (sym shifted) (fits-long (pos (natAbs (pos x -ℤ d) / 2)) (omega (arith, small)))
+
+  read : toZ w64 (ofZ w64 (shrZ (toZ w64 (ofZ w64 (toZ w64 x -ℤ toZ w64 (ofZ w64 (toZ w16 (ofZ w16 d)))))) 2)) ≡ pos (natAbs (pos x -ℤ d) / 2)
+  read = toZ-ofZ fits-half ∙ shifted
 
   halved : pos (natAbs (pos x -ℤ d) / 2) ≡ half (pos x -ℤ d)
   unfolding half
@@ -66,7 +73,7 @@ cast-result-3 c =
 returns : tie.Need-returns
 returns c =
     let p = c .pre in
-    ap (λ (z : ℤ). pos (natAbs z / 2)) (read (c .args .x) _ (p .0) (p .1 .0) (p .1 .1) (c .fits .digit))
+    ap (λ (z : ℤ). pos (natAbs z)) (read (c .args .x) _ (p .0) (p .1 .0) (p .1 .1) (c .fits .digit))
     ∙ halved (c .args .x) _ (p .0) (p .1 .0) (p .1 .1) (c .fits .digit)
 
 pub rest-of-spec : {M : Type 1} → statement M

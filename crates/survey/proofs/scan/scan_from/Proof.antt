@@ -14,7 +14,7 @@ use Rattle.survey.specs.Survey.State.{Counted, isPlaced, misplacedFrom}
 use Rattle.survey.proofs.PhaseTurns.{out-of-place}
 use Rattle.survey.proofs.ScanTurns.{Going, going-start, going-same, going-turn, going-end, counted-turn}
 use Rattle.digits.specs.Two.{P, Q}
-use Rattle.sums.proofs.Digits.{near-later}
+use Rattle.survey.proofs.Digits.{near-later}
 use Rattle.survey.proofs.TotalTurns.{Running, running-start, running-turn, running-end, summed}
 use Rattle.survey.proofs.scan.scan_from.Statement.{statement}
 use Rattle.survey.proofs.scan.scan_from.Tie as tie

@@ -1,22 +1,20 @@
 -- Numbers in limbs: a scalar by its last figures, and the turns of the comparison. From the value of a list of limbs.
-use mathlib.Core.Path.{_≡_, refl, sym, ap, subst, _∙_}
+use mathlib.Core.Path.{_≡_, refl, sym, ap, _∙_}
 use mathlib.Core.Logic.{_≢_}
 use mathlib.Core.Bool.{Bool, true, false, and-eq-true-iff}
 use mathlib.Core.List.{List, [], _∷_, _++_}
 use Prim.Native.Nat.{ℕ, zero, suc, _+_, _*_, _/_, _%_, _≤_, _<_}
 use native.Mathlib.Omega.{arith}
 use lib.Dec.{eqb, ltb}
-use lib.ListN.{length, getD, take, drop, replicate, drop-of-length-le, length-replicate}
+use lib.ListN.{length, getD, take, drop, drop-of-length-le}
 use lib.Seq.{drop-cons, take-suc, take-length}
 use borrow.Author.Tests.{eq-eqb, ne-eqb, eqb-true, eqb-false, ltb-true}
 use lib.IntN.{ℤ, pos, negsuc}
-use Rattle.digits.specs.Integer.{up, down}
-use Rattle.digits.specs.Integer.Parts.{negation}
 use Rattle.sheet.specs.Numeral.{worth, figures, followed}
 use Rattle.sheet.specs.Questions.{sameNumber}
-use Rattle.lines.specs.Coded.{whole, wholeOf}
-use Rattle.sums.specs.Sum.{limb, limbs, start, value, empty, Holds, before}
-use Rattle.lines.specs.declared.point.Signed.{Signed}
+use Rattle.survey.specs.Sum.{limb, limbs, start, value, empty, Holds}
+use Rattle.survey.proofs.Digits.{empty-long, empty-drop}
+use Rattle.reader.specs.Scalar.{before}
 
 -- ── a scalar ────────────────────────────────────────────────────────────────────────────────
 
@@ -42,26 +40,6 @@ unfolding figures
 figure-small [] i e h = absurd (omega arith)
 figure-small (c ∷ s) zero e h = ltb-true (worth c) 16 (and-eq-true-iff (ltb (worth c) 16) (figures 16 s) .0 e .0)
 figure-small (c ∷ s) (suc i) e h = figure-small s i (and-eq-true-iff (ltb (worth c) 16) (figures 16 s) .0 e .1) (omega arith)
-
--- ── the limbs of 0 ──────────────────────────────────────────────────────────────────────────
-
-starts : (n i : ℕ) → i < n → getD (replicate n start) i 0 ≡ start
-starts zero i h = absurd (omega arith)
-starts (suc n) zero h = refl
-starts (suc n) (suc i) h = starts n i (omega arith)
-
-pub empty-limb : (i : ℕ) → i < limbs → getD empty i 0 ≡ start
-unfolding empty
-empty-limb i h = starts limbs i h
-
-pub empty-long : length empty ≡ limbs
-unfolding empty
-empty-long = length-replicate {A = ℕ} limbs start
-
--- from a limb on
-empty-drop : (i : ℕ) → i < limbs → value (drop i empty) ≡ start + limb * value (drop (suc i) empty)
-unfolding value
-empty-drop i h = ap value (drop-cons empty i 0 (omega (arith, empty-long))) ∙ ap (λ (n : ℕ). n + limb * value (drop (suc i) empty)) (empty-limb i h)
 
 -- ── the comparison ──────────────────────────────────────────────────────────────────────────
 
@@ -106,14 +84,3 @@ sum-start x y z = same-test (x + y + 0) (z + 0) (x + y) z (λ q. omega arith) (�
 pub is-number : (n : ℕ) (xs : List ℕ) (z : ℤ) (k : ℕ) → Holds n xs z → eqb (k + value empty) (value xs) ≡ sameNumber z (pos k)
 is-number n xs (pos m) k i = same-test (k + value empty) (value xs) m k (λ e. omega (arith, i .is)) (λ e. omega (arith, i .is))
 is-number n xs (negsuc m) k i = ne-eqb (k + value empty) (value xs) (λ e. omega (arith, i .is))
-
--- ── a digit ─────────────────────────────────────────────────────────────────────────────────
-
--- by its sign and its size
-pub sign-minus : (s : Signed) → s .negative ≡ true → (up (whole s) ≡ 0) × (down (whole s) ≡ s .size)
-sign-minus s e =
-    subst (λ (b : Bool). (up (wholeOf b (s .size)) ≡ 0) × (down (wholeOf b (s .size)) ≡ s .size)) (sym e)
-    (negation (pos (s .size)) .0, negation (pos (s .size)) .1)
-
-pub sign-plus : (s : Signed) → s .negative ≡ false → (up (whole s) ≡ s .size) × (down (whole s) ≡ 0)
-sign-plus s e = subst (λ (b : Bool). (up (wholeOf b (s .size)) ≡ s .size) × (down (wholeOf b (s .size)) ≡ 0)) (sym e) (refl, refl)

@@ -5,9 +5,10 @@ ghost use lib.IntN.{ℤ, pos};
 ghost use lib.ListN.{length};
 ghost use Rattle.sheet.specs.Numeral.{figures, followed};
 ghost use Rattle.sheet.specs.Questions.{sameNumber};
-ghost use Rattle.sums.specs.Sum.{limb, most, Holds, Roomy, Below};
-use crate::limbs::LIMBS;
-use crate::limbs::START;
+ghost use Rattle.survey.specs.Sum.{limb, most, Holds, Roomy};
+ghost use Rattle.reader.specs.Scalar.{Below};
+use survey::LIMBS;
+use survey::START;
 
 // One more than the largest limb of a scalar.
 const LIMB: u64 = 65536;

@@ -1,4 +1,4 @@
--- `surveyed` meets its contract: each return is one line of Judged, and the sums are those of all lines (Claim).
+-- `survey_into` meets its contract: each return is one line of Judged, and the sums are those of all lines (Claim).
 use native.Mathlib.Omega.{arith}
 use mathlib.Core.Path.{_≡_, sym, ap, subst, _∙_}
 use mathlib.Core.List.{List, []}
@@ -13,7 +13,7 @@ use Rattle.sheet.specs.Spelling.{lines}
 use Rattle.sheet.specs.Answer.{heading}
 use Rattle.lines.specs.Coded.{Opens, Opened}
 use Rattle.lines.specs.declared.header.Header.{Header}
-use Rattle.sums.specs.Sum.{most, Holds}
+use Rattle.survey.specs.Sum.{most, Holds}
 use Rattle.survey.specs.Survey.State.{planFor, claimedBy, Behind}
 use Rattle.survey.specs.Survey.Total.{total}
 use Rattle.survey.specs.Survey.Scan.{Reached, Answered, Scanned, Summed}
@@ -26,8 +26,8 @@ use Rattle.survey.proofs.HeaderTurns.{begin-plan}
 use Rattle.survey.proofs.ScanTurns.{no-opening, surveyed-met, surveyed-not}
 use Rattle.survey.proofs.Judged.{too-long, misplaced-line, whole-sheet}
 use borrow.Author.Needs.{needs}
-use Rattle.survey.proofs.questions.surveyed.Statement.{statement}
-use Rattle.survey.proofs.questions.surveyed.Tie as tie
+use Rattle.survey.proofs.questions.survey_into.Statement.{statement}
+use Rattle.survey.proofs.questions.survey_into.Tie as tie
 
 returns : tie.Need-returns
 returns c = (too-long (c .before .before .before .before .args .sheet .now) (c .if1 .taken), (tt, tt))
@@ -150,8 +150,8 @@ returns-4 c =
       (tt, tt),
     )
 
-pub surveyed-spec : {M : Type 1} → statement M
-surveyed-spec =
+pub survey-into-spec : {M : Type 1} → statement M
+survey-into-spec =
     tie.close
     (tie.spec
     returns

@@ -2,12 +2,10 @@
 -- more than its bits, or less than it began with.
 use mathlib.Core.Path.{_≡_}
 use mathlib.Core.List.{List, [], _∷_}
-use Prim.Native.Nat.{ℕ, suc, _+_, _-_, _*_, _^_, _≤_, _<_}
+use Prim.Native.Nat.{ℕ, suc, _+_, _*_, _^_, _≤_, _<_}
 use lib.IntN.{ℤ, pos, _+ℤ_, _*ℤ_}
-use lib.ListN.{length, getD, take, replicate}
+use lib.ListN.{length, getD, replicate}
 use Rattle.digits.specs.Integer.{up, down}
-use Rattle.sheet.specs.Numeral.{followed}
-use Rattle.sums.specs.declared.compare.Figures.{Figures}
 
 -- the next limb counts for so much
 abbrev pub limb : ℕ
@@ -56,13 +54,3 @@ pub record Holds (n : ℕ) (xs : List ℕ) (z : ℤ) : Type 0 where
 -- the limbs ys have a digit y more than xs, at the place k
 abbrev pub Added : ℕ → ℤ → List ℕ → List ℕ → Type 0
 Added k y xs ys = (n : ℕ) (z : ℤ) → Holds n xs z → Holds (suc n) ys (z +ℤ pos (2 ^ k) *ℤ y)
-
--- the number of the figures before a place of a scalar
-abbrev pub before : List ℕ → ℕ → ℕ
-before s end = followed 16 0 (take end s)
-
--- r has the last n figures before a place, which count below the base
-pub record Below (base n : ℕ) (s : List ℕ) (end : ℕ) (r : Figures) : Type 0 where
-  pub start : r .start ≡ end - n
-  pub is : before s end ≡ base * before s (r .start) + r .value
-  pub small : r .value < base

@@ -1,9 +1,9 @@
 -- `empty` meets its contract: no digit was added.
 use mathlib.Core.Path.{refl}
-use Rattle.sums.specs.Sum.{empty}
-use Rattle.sums.proofs.Digits.{holds-none}
-use Rattle.sums.proofs.limbs.empty.Statement.{statement}
-use Rattle.sums.proofs.limbs.empty.Tie as tie
+use Rattle.survey.specs.Sum.{empty}
+use Rattle.survey.proofs.Digits.{holds-none}
+use Rattle.survey.proofs.limbs.empty.Statement.{statement}
+use Rattle.survey.proofs.limbs.empty.Tie as tie
 
 returns : tie.Need-returns
 returns c = holds-none (unfold empty in refl)

@@ -6,10 +6,11 @@ use Prim.Native.Nat.{ℕ, _+_, _-_, _*_, _≤_}
 use lib.Dec.{eqb}
 use lib.ListN.{length, drop}
 use Rattle.sheet.specs.Numeral.{followed}
-use Rattle.sums.specs.Sum.{value, empty, before}
-use Rattle.sums.proofs.LimbTurns.{before-none, before-all, sum-turn, sum-stop, sum-end, sum-start, is-number}
-use Rattle.sums.proofs.compare.is.Statement.{statement}
-use Rattle.sums.proofs.compare.is.Tie as tie
+use Rattle.survey.specs.Sum.{value, empty}
+use Rattle.reader.specs.Scalar.{before}
+use Rattle.reader.proofs.LimbTurns.{before-none, before-all, sum-turn, sum-stop, sum-end, sum-start, is-number}
+use Rattle.reader.proofs.compare.is.Statement.{statement}
+use Rattle.reader.proofs.compare.is.Tie as tie
 
 abbrev Inv-loop : tie.InvT-loop
 Inv-loop limbs scalar end₀ left₀ right₀ i₀ end left right i =

@@ -2,7 +2,7 @@ ghost use Prim.Native.Nat.{_≤_};
 ghost use lib.IntN.{pos};
 ghost use Rattle.digits.specs.Limits.{card};
 ghost use Rattle.lines.specs.Coded.{whole};
-ghost use Rattle.sums.specs.Sum.{Roomy, Holds, Added};
+ghost use Rattle.survey.specs.Sum.{Roomy, Holds, Added};
 use lines::Signed;
 
 // What each limb begins with, so that a digit can be taken off it.

@@ -2,11 +2,11 @@
 use native.Mathlib.Omega.{arith}
 use mathlib.Core.Path.{_≡_, ap, _∙_}
 use Prim.Native.Nat.{suc, _-_}
-use Rattle.sums.specs.Sum.{before}
-use Rattle.sums.proofs.LimbTurns.{before-none, before-last, figure-small}
+use Rattle.reader.specs.Scalar.{before}
+use Rattle.reader.proofs.LimbTurns.{before-none, before-last, figure-small}
 use borrow.Author.Needs.{needs}
-use Rattle.sums.proofs.compare.figure_before.Statement.{statement}
-use Rattle.sums.proofs.compare.figure_before.Tie as tie
+use Rattle.reader.proofs.compare.figure_before.Statement.{statement}
+use Rattle.reader.proofs.compare.figure_before.Tie as tie
 
 returns : tie.Need-returns
 returns c =

@@ -6,11 +6,11 @@ use Prim.Native.Nat.{ℕ, suc, _+_, _-_, _/_, _^_, _<_}
 use lib.IntN.{pos, _+ℤ_, _*ℤ_}
 use lib.ListN.{getD, set}
 use Rattle.lines.specs.Coded.{whole}
-use Rattle.sums.specs.Sum.{Holds}
-use Rattle.sums.proofs.Digits.{units-are, units-most, digit-plus, digit-minus}
+use Rattle.survey.specs.Sum.{Holds}
+use Rattle.survey.proofs.Digits.{units-are, units-most, digit-plus, digit-minus}
 use borrow.Author.Needs.{needs}
-use Rattle.sums.proofs.limbs.add.Statement.{statement}
-use Rattle.sums.proofs.limbs.add.Tie as tie
+use Rattle.survey.proofs.limbs.add.Statement.{statement}
+use Rattle.survey.proofs.limbs.add.Tie as tie
 
 cast-units : tie.Need-cast-units
 cast-units c = search needs

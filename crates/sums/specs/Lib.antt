@@ -1,2 +1,0 @@
--- What the numbers stand for.
-pub mod Sum
