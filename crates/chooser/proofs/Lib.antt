@@ -1,5 +1,6 @@
 pub mod Counts
 pub mod Windows
 pub mod Numbers
+pub mod Limit
 pub mod Turns
 pub mod CallAnswers

@@ -4,14 +4,11 @@ use mathlib.Core.List.{List, [], _∷_, _++_, map, append-assoc, append-nil}
 use Prim.Native.Nat.{ℕ, zero, suc, _+_, _-_, _*_, _<_}
 use native.Mathlib.Numerals.{add-one}
 use native.Mathlib.Omega.{arith}
-use lib.IntN.{pos}
 use lib.ListN.{length, getD, set, take, replicate, length-map}
 use lib.Seq.{set-at, take-suc, take-all, length-take-le}
-use Rattle.digits.specs.Row as Rows
-use Rattle.forms.specs.Row.{row}
 use Rattle.sheet.specs.Plan.{odds}
 use Rattle.chooser.specs.Cheapest.{windows}
-use Rattle.chooser.specs.Body.Weights.{rowWeights}
+use Rattle.chooser.specs.Body.Weights.{rowWeight, rowWeights}
 
 getD-odds : (d n i : ℕ) → i < n → getD (odds d n) i 0 ≡ d + 2 * i
 unfolding odds
@@ -25,21 +22,20 @@ length-odds d zero = refl
 length-odds d (suc n) = ap suc (length-odds (2 + d) n)
 
 -- there are sixteen weights, and that of the window 2 i + 1 is the i-th
-pub weights-length : (k : ℕ) → length (rowWeights k) ≡ 16
+pub weights-length : (limit k : ℕ) → length (rowWeights limit k) ≡ 16
 unfolding rowWeights
-weights-length k = length-map windows (λ (m : ℕ). Rows.weight (row m (pos k))) ∙ length-odds 1 16
+weights-length limit k = length-map windows (rowWeight limit k) ∙ length-odds 1 16
 
 map-at : (f : ℕ → ℕ) (l : List ℕ) (i : ℕ) → i < length l → getD (map f l) i 0 ≡ f (getD l i 0)
 map-at f [] i h = absurd (omega arith)
 map-at f (x ∷ l) zero h = refl
 map-at f (x ∷ l) (suc i) h = map-at f l i (omega arith)
 
-pub weights-at : (k i : ℕ) → i < 16 → getD (rowWeights k) i 0 ≡ Rows.weight (row (2 * i + 1) (pos k))
+pub weights-at : (limit k i : ℕ) → i < 16 → getD (rowWeights limit k) i 0 ≡ rowWeight limit k (2 * i + 1)
 unfolding rowWeights
-weights-at k i h =
+weights-at limit k i h =
     let e : 1 + 2 * i ≡ 2 * i + 1 = omega arith in
-    map-at (λ (m : ℕ). Rows.weight (row m (pos k))) windows i (omega (arith, length-odds 1 16))
-    ∙ ap (λ (m : ℕ). Rows.weight (row m (pos k))) (getD-odds 1 16 i h ∙ e)
+    map-at (rowWeight limit k) windows i (omega (arith, length-odds 1 16)) ∙ ap (rowWeight limit k) (getD-odds 1 16 i h ∙ e)
 
 -- a list of n zeros filled from the front with the first i elements of w
 abbrev pub begun : List ℕ → ℕ → ℕ → List ℕ

@@ -7,7 +7,7 @@ ghost use Rattle.sheet.specs.declared.Plan.{Plan};
 ghost use Rattle.sheet.specs.Plan.{isWithin};
 ghost use Rattle.written.specs.Written.{first};
 ghost use Rattle.chooser.specs.Cheapest.{cheapestPlan, plans, rank, within};
-ghost use Rattle.chooser.specs.Body.Choice.{keyOf, planWeight, costKey};
+ghost use Rattle.chooser.specs.Body.Choice.{keyOf, planWeight, costKey, Enough};
 ghost use Rattle.chooser.specs.Lexicographic.{before, better, least};
 use sheet::Plan;
 
@@ -17,6 +17,12 @@ pub struct Cost {
     pub slots: u32,
     pub rank: u32,
     pub first: u32,
+}
+
+// A plan with its cost.
+pub struct Candidate {
+    pub plan: Plan,
+    pub cost: Cost,
 }
 
 impl Cost {
@@ -117,13 +123,27 @@ fn plan_at(n: u32) -> Plan
     Plan::I(2 * (at / 16) + 1, 2 * (at % 16) + 1)
 }
 
+// How many plans, from the first on, are enough to try: one within the limit has no window above 2 limit + 1.
+fn plans_to_try(limit: u32) -> u32
+    ensures { λ r. ⌜ Enough limit r ⌝ }
+{
+    if limit < 15 {
+        return 16 * limit + 17;
+    }
+    257
+}
+
 // The better of the best plan so far and the next one, which may need more slots than the limit.
-fn better_of(best: Plan, plan: Plan, k: &[u32], l: &[u32], joint: u32, limit: u32) -> Plan
-    ensures { λ r. ⌜ r ≡ cond (isWithin plan limit) (better (costKey (now (k .entry)) (now (l .entry)) joint) best plan) best ⌝ }
+fn better_of(best: Candidate, plan: Plan, k: &[u32], l: &[u32], joint: u32, limit: u32) -> Candidate
+    requires { ⌜ keyOf (best .cost) ≡ costKey (now k) (now l) joint (best .plan) ⌝ }
+    ensures { λ r. ⌜ r .plan ≡ cond (isWithin plan limit) (better (costKey (now (k .entry)) (now (l .entry)) joint) (best .plan) plan) (best .plan) ⌝ }
+    ensures { λ r. ⌜ keyOf (r .cost) ≡ costKey (now (k .entry)) (now (l .entry)) joint (r .plan) ⌝ }
 {
     if plan.is_within(limit) {
-        if cost_of(plan, k, l, joint).comes_before(cost_of(best, k, l, joint)) {
-            return plan;
+        let cost = cost_of(plan, k, l, joint);
+        let least = best.cost;
+        if cost.comes_before(least) {
+            return Candidate { plan, cost };
         }
     }
     best
@@ -133,14 +153,17 @@ fn better_of(best: Plan, plan: Plan, k: &[u32], l: &[u32], joint: u32, limit: u3
 fn least_plan(k: &[u32], l: &[u32], joint: u32, limit: u32) -> Plan
     ensures { λ r. ⌜ r ≡ least (costKey (now (k .entry)) (now (l .entry)) joint) (Plan.I 1 1) (within limit plans) ⌝ }
 {
-    let mut best = Plan::I(1, 1);
+    let plan = Plan::I(1, 1);
+    let cost = cost_of(plan, k, l, joint);
+    let mut best = Candidate { plan, cost };
+    let most = plans_to_try(limit);
     let mut n = 0;
-    while n < 257 {
+    while n < most {
         let next = better_of(best, plan_at(n), k, l, joint, limit);
         best = next;
         n += 1;
     }
-    best
+    best.plan
 }
 
 // The cheapest plan for two scalars within the limit.
@@ -148,8 +171,8 @@ pub fn cheapest_plan(k: &[u8], l: &[u8], limit: u32) -> Plan
     requires { ⌜ (1 ≤ length (now k)) × ((length (now k) ≤ 66) × ((1 ≤ length (now l)) × (length (now l) ≤ 66))) ⌝ }
     ensures { λ r. ⌜ r ≡ cheapestPlan (scalar (now (k .entry))) (scalar (now (l .entry))) limit ⌝ }
 {
-    let k_weights = crate::weights::row_weights(k);
-    let l_weights = crate::weights::row_weights(l);
-    let joint = crate::weights::joint_weight(k, l);
+    let k_weights = crate::weights::row_weights(k, limit);
+    let l_weights = crate::weights::row_weights(l, limit);
+    let joint = crate::weights::joint_weight_within(k, l, limit);
     least_plan(&k_weights, &l_weights, joint, limit)
 }

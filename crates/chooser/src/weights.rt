@@ -8,7 +8,8 @@ ghost use Rattle.digits.specs.Scalar.{scalar};
 ghost use Rattle.digits.specs.Two.{two};
 ghost use Rattle.forms.specs.Joint.{joint};
 ghost use Rattle.forms.specs.Row as Rows;
-ghost use Rattle.chooser.specs.Body.Weights.{marked, nonzero, nonzeroPairs, rowWeights};
+ghost use Rattle.chooser.specs.Body.Weights.{marked, nonzero, nonzeroPairs, rowWeight, rowWeights, jointWeight};
+use sheet::Plan;
 
 // 1 where a byte is not 0.
 fn mark(byte: u8) -> u32
@@ -75,8 +76,19 @@ fn row_weight(bytes: &[u8], m: u32) -> u32
     row_weight_in(bytes, m, &mut digits[..places])
 }
 
+// The weight of the scalar's row for the window m where a plan within the limit may have it, and 0 where none may.
+fn row_weight_within(bytes: &[u8], m: u32, limit: u32) -> u32
+    requires { ⌜ (1 ≤ length (now bytes)) × ((length (now bytes) ≤ 66) × ((m % 2 ≡ 1) × (m ≤ 31))) ⌝ }
+    ensures { λ r. ⌜ r ≡ rowWeight limit (scalar (now (bytes .entry))) m ⌝ }
+{
+    if m / 2 <= limit {
+        return row_weight(bytes, m);
+    }
+    0
+}
+
 // The number of non-zero columns of the joint form.
-pub fn joint_weight(k: &[u8], l: &[u8]) -> u32
+fn joint_weight(k: &[u8], l: &[u8]) -> u32
     requires { ⌜ (1 ≤ length (now k)) × ((length (now k) ≤ 66) × ((1 ≤ length (now l)) × (length (now l) ≤ 66))) ⌝ }
     ensures { λ r. ⌜ r ≡ Column.weight two (joint (pos (scalar (now (k .entry)))) (pos (scalar (now (l .entry))))) ⌝ }
 {
@@ -86,15 +98,26 @@ pub fn joint_weight(k: &[u8], l: &[u8]) -> u32
     count_pairs(&k_digits, &l_digits)
 }
 
-// The weights of the scalar's rows, for the windows 1, 3, .. 31.
-pub fn row_weights(bytes: &[u8]) -> [u32; 16]
+// The weight of the joint form where plan J is within the limit, and 0 where it is not.
+pub fn joint_weight_within(k: &[u8], l: &[u8], limit: u32) -> u32
+    requires { ⌜ (1 ≤ length (now k)) × ((length (now k) ≤ 66) × ((1 ≤ length (now l)) × (length (now l) ≤ 66))) ⌝ }
+    ensures { λ r. ⌜ r ≡ jointWeight limit (scalar (now (k .entry))) (scalar (now (l .entry))) ⌝ }
+{
+    if Plan::J.is_within(limit) {
+        return joint_weight(k, l);
+    }
+    0
+}
+
+// The weights of the scalar's rows, for the windows 1, 3, .. 31, as far as the limit lets a plan have them.
+pub fn row_weights(bytes: &[u8], limit: u32) -> [u32; 16]
     requires { ⌜ (1 ≤ length (now bytes)) × (length (now bytes) ≤ 66) ⌝ }
-    ensures { λ r. ⌜ r ≡ rowWeights (scalar (now (bytes .entry))) ⌝ }
+    ensures { λ r. ⌜ r ≡ rowWeights limit (scalar (now (bytes .entry))) ⌝ }
 {
     let mut weights = [0u32; 16];
     let mut i = 0;
     while i < 16 {
-        weights[i] = row_weight(bytes, 2 * (i as u32) + 1);
+        weights[i] = row_weight_within(bytes, 2 * (i as u32) + 1, limit);
         i += 1;
     }
     weights

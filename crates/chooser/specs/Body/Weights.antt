@@ -1,9 +1,16 @@
--- The weights that decide the cost of each plan: of each scalar's row for the sixteen windows, and of the joint form.
+-- The weights that decide the cost of each plan within a limit: of each scalar's row for the windows, and of the joint form.
+use mathlib.Core.Bool.{cond}
 use mathlib.Core.List.{List, [], _∷_, map}
-use Prim.Native.Nat.{ℕ, zero, suc, _+_}
+use Prim.Native.Nat.{ℕ, zero, suc, _+_, _*_}
+use lib.Dec.{leb}
 use lib.IntN.{pos}
+use Rattle.digits.specs.Column as Columns
 use Rattle.digits.specs.Row as Rows
+use Rattle.digits.specs.Two.{two}
+use Rattle.forms.specs.Joint.{joint}
 use Rattle.forms.specs.Row.{row}
+use Rattle.sheet.specs.declared.Plan.the-variants.{J}
+use Rattle.sheet.specs.Plan.{isWithin}
 use Rattle.chooser.specs.Cheapest.{windows}
 
 -- 1 for a number that is not 0
@@ -22,6 +29,14 @@ nonzeroPairs [] t = nonzero t
 nonzeroPairs (a ∷ s) [] = marked a + nonzeroPairs s []
 nonzeroPairs (a ∷ s) (b ∷ t) = marked (a + b) + nonzeroPairs s t
 
--- the weights of a scalar's rows, window by window
-unfoldable pub rowWeights : ℕ → List ℕ
-rowWeights k = map (λ m. Rows.weight (row m (pos k))) windows
+-- the weight of a scalar's row for a window that a plan within the limit may have, one up to 2 limit + 1; 0 for another
+abbrev pub rowWeight : ℕ → ℕ → ℕ → ℕ
+rowWeight limit k m = cond (leb m (2 * limit + 1)) (Rows.weight (row m (pos k))) 0
+
+-- these weights, window by window
+unfoldable pub rowWeights : ℕ → ℕ → List ℕ
+rowWeights limit k = map (rowWeight limit k) windows
+
+-- the weight of the joint form where J is within the limit; 0 where it is not
+abbrev pub jointWeight : ℕ → ℕ → ℕ → ℕ
+jointWeight limit k l = cond (isWithin J limit) (Columns.weight two (joint (pos k) (pos l))) 0

@@ -1,5 +1,5 @@
 -- The order of lists of numbers is total, and the first least of a list is one of them that no other comes before. Assumes nothing.
-use mathlib.Core.Path.{_≡_, refl, sym, subst, _∙_}
+use mathlib.Core.Path.{_≡_, refl, sym, ap, ap₂, subst, _∙_}
 use mathlib.Core.Bool.{Bool, true, false, _&&_, _||_, cond}
 use mathlib.Core.List.{List, [], _∷_}
 use Prim.Native.Nat.{ℕ, _≤_, _<_}
@@ -143,6 +143,21 @@ module _ {A : Type 0} (key : A → List ℕ) where
   least-least x a bs (here {bs = cs}) =
       before-down (key (least key (better key a x) cs)) (key (better key a x)) (key x) (least-start (better key a x) cs) (better-right a x)
   least-least x a bs (there {b = b} {bs = cs} o) = least-least x (better key a b) cs o
+
+-- by two keys that agree on a and on the things of a list, the least is the same
+pub least-agrees : {A : Type 0} (key other : A → List ℕ) (a : A) (bs : List A) → key a ≡ other a → ((x : A) → In x bs → key x ≡ other x)
+    → least key a bs ≡ least other a bs
+unfolding least
+least-agrees key other a [] e h = refl
+least-agrees key other a (b ∷ bs) e h =
+    ap (λ x. least key x bs) same ∙ least-agrees key other (better other a b) bs (agree (before (other b) (other a))) (λ x o. h x (there o))
+  where
+    same : better key a b ≡ better other a b
+    same = ap₂ (λ (x y : List ℕ). cond (before x y) b a) (h b here) e
+
+    agree : (t : Bool) → key (cond t b a) ≡ other (cond t b a)
+    agree true = h b here
+    agree false = e
 
 -- a key is compared number by number
 pub before-differs : (x y : ℕ) (xs ys : List ℕ) → (x ≡ y → ⊥) → ltb x y ≡ before (x ∷ xs) (y ∷ ys)

@@ -13,8 +13,8 @@ row-weights-requires c κs = search needs
 row-weights-requires-2 : tie.Need-row-weights-requires-2
 row-weights-requires-2 c κs = search needs
 
-joint-weight-requires : tie.Need-joint-weight-requires
-joint-weight-requires c κs = search needs
+joint-weight-within-requires : tie.Need-joint-weight-within-requires
+joint-weight-within-requires c κs = search needs
 
 slice-aggregate-least-plan : tie.Need-slice-aggregate-least-plan
 slice-aggregate-least-plan c = search needs
@@ -30,8 +30,8 @@ returns c =
     let a = c .before .before .before .before .before .before .before .before .args in
     let p = c .before .before .before .before .before .before .before .before .pre in
     c .least-plan .ensures
-    ∙ rw (c .before .before .before .before .before .row-weights .ensures, c .before .before .before .before .row-weights2 .ensures, c .before .before .before .joint-weight .ensures)
-    (plan-by-weights (scalar (a .k .now)) (scalar (a .l .now)) (a .limit)
+    ∙ rw (c .before .before .before .before .before .row-weights .ensures, c .before .before .before .before .row-weights2 .ensures, c .before .before .before .joint-weight-within .ensures)
+    (plan-by-weights (a .limit) (scalar (a .k .now)) (scalar (a .l .now))
     (scalar-bits (a .k .now) 66 (λ i. c .before .before .before .before .before .before .before .shared-slice-known .given i .fits) (p .1 .0))
     (scalar-bits (a .l .now) 66 (λ i. c .before .before .before .before .before .before .shared-slice-known2 .given i .fits) (p .1 .1 .1)))
 
@@ -41,7 +41,7 @@ cheapest-plan-spec =
     (tie.spec
     row-weights-requires
     row-weights-requires-2
-    joint-weight-requires
+    joint-weight-within-requires
     slice-aggregate-least-plan
     slice-aggregate-least-plan-2
     least-plan-requires

@@ -9,25 +9,25 @@ use Rattle.chooser.proofs.weights.row_weights.Statement.{statement}
 use Rattle.chooser.proofs.weights.row_weights.Tie as tie
 
 abbrev Inv-loop : tie.InvT-loop
-Inv-loop bytes weights₀ i₀ weights i = (i ≤ 16) × (weights ≡ begun (rowWeights (scalar bytes)) 16 i)
+Inv-loop bytes limit weights₀ i₀ weights i = (i ≤ 16) × (weights ≡ begun (rowWeights limit (scalar bytes)) 16 i)
 
 abbrev μ-loop : tie.MeasureT-loop
-μ-loop bytes weights₀ i₀ weights i = 16 - i
+μ-loop bytes limit weights₀ i₀ weights i = 16 - i
 
 loop-holds : tie.Need-loop-holds Inv-loop μ-loop
-loop-holds c = (omega arith, sym (begun-none (rowWeights (scalar (c .before .args .bytes .now))) 16))
+loop-holds c = let a = c .before .args in (omega arith, sym (begun-none (rowWeights (a .limit) (scalar (a .bytes .now))) 16))
 
-cast-row-weight : tie.Need-cast-row-weight Inv-loop μ-loop
-cast-row-weight c = omega arith
+cast-row-weight-within : tie.Need-cast-row-weight-within Inv-loop μ-loop
+cast-row-weight-within c = omega arith
 
-mul-row-weight : tie.Need-mul-row-weight Inv-loop μ-loop
-mul-row-weight c = omega arith
+mul-row-weight-within : tie.Need-mul-row-weight-within Inv-loop μ-loop
+mul-row-weight-within c = omega arith
 
-add-row-weight : tie.Need-add-row-weight Inv-loop μ-loop
-add-row-weight c = omega arith
+add-row-weight-within : tie.Need-add-row-weight-within Inv-loop μ-loop
+add-row-weight-within c = omega arith
 
-row-weight-requires : tie.Need-row-weight-requires Inv-loop μ-loop
-row-weight-requires c κs = omega arith
+row-weight-within-requires : tie.Need-row-weight-within-requires Inv-loop μ-loop
+row-weight-within-requires c κs = omega arith
 
 mul-weights : tie.Need-mul-weights Inv-loop μ-loop
 mul-weights c = omega arith
@@ -43,19 +43,21 @@ loop-less c = omega arith
 
 loop-again : tie.Need-loop-again Inv-loop μ-loop
 loop-again c =
-    let k = scalar (c .before .before .before .before .args .bytes .now) in
+    let a = c .before .before .before .before .args in
+    let k = scalar (a .bytes .now) in
     let i = c .before .before .loop .i in
     let inside : c .before .before .loop .i < 16 = omega arith in (
       omega arith,
       rw (c .before .before .loop .inv .1)
-          (begun-more (rowWeights k) 16 i (c .row-weight .result) inside (weights-length k) (c .row-weight .ensures ∙ sym (weights-at k i inside))),
+          (begun-more (rowWeights (a .limit) k) 16 i (c .row-weight-within .result) inside (weights-length (a .limit) k) (c .row-weight-within .ensures ∙ sym (weights-at (a .limit) k i inside))),
     )
 
 returns : tie.Need-returns Inv-loop μ-loop
 returns c =
-    let k = scalar (c .before .before .before .args .bytes .now) in
+    let a = c .before .before .before .args in
+    let w = rowWeights (a .limit) (scalar (a .bytes .now)) in
     let all : c .before .loop .i ≡ 16 = omega arith in
-    c .before .loop .inv .1 ∙ ap (begun (rowWeights k) 16) all ∙ begun-all (rowWeights k) 16 (weights-length k)
+    c .before .loop .inv .1 ∙ ap (begun w 16) all ∙ begun-all w 16 (weights-length (a .limit) (scalar (a .bytes .now)))
 
 pub row-weights-spec : {M : Type 1} → statement M
 row-weights-spec =
@@ -64,10 +66,10 @@ row-weights-spec =
     Inv-loop
     μ-loop
     loop-holds
-    cast-row-weight
-    mul-row-weight
-    add-row-weight
-    row-weight-requires
+    cast-row-weight-within
+    mul-row-weight-within
+    add-row-weight-within
+    row-weight-within-requires
     mul-weights
     array-write-weights
     add-i
