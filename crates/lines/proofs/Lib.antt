@@ -2,6 +2,7 @@
 pub mod PointRead
 pub mod HeaderRead
 pub mod LineRead
+pub mod ShortRead
 pub mod LineAt
 pub mod FirstLine
 pub mod Was

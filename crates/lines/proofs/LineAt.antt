@@ -2,6 +2,7 @@
 use mathlib.Core.Path.{_≡_, refl, sym, ap, subst, _∙_}
 use mathlib.Core.Logic.{_≢_}
 use mathlib.Core.List.{List, [], _∷_, _++_}
+use mathlib.Core.Option.{some}
 use Prim.Native.Nat.{ℕ, suc, _+_, _≤_, _<_}
 use native.Mathlib.Omega.{arith}
 use lib.ListN.{length, getD, take, drop, length-drop}
@@ -11,10 +12,13 @@ use Rattle.sheet.specs.Line as spec
 use Rattle.sheet.specs.Line.{double, misspelled}
 use Rattle.sheet.specs.Spelling.{lineFeed, cut, readBehind, readLine, lines}
 use Rattle.sheet.specs.Spelling.Cut.{Lacks, lines-none, lines-more, lines-last}
+use Rattle.sheet.specs.Spelling.Spelled.{spelled-line}
 use Rattle.sheet.specs.Every.{empty}
 use Rattle.sheet.specs.Spelling.Field.{First}
 use Rattle.sheet.proofs.CutTurns.{first-all, lacks-turn}
-use Rattle.lines.specs.Coded.{coded, Doubles, Took, Past}
+use Rattle.lines.specs.Coded.{coded, pointed, Doubles, Took, Past}
+use Rattle.lines.specs.Short.{Begins}
+use Rattle.lines.specs.declared.point.Point.{Point}
 use Rattle.lines.specs.declared.line.Line.{Line}
 use Rattle.lines.specs.declared.line.Line.the-variants.{Double, Other}
 
@@ -63,6 +67,19 @@ took-double s at h d =
     let next : at + 1 + 1 ≡ at + 2 = omega arith in
     subst (Took s at Double) next
     (took-line s at 1 f h (omega (arith, d .long)) Double (ap coded (sym double-alone ∙ ap (readLine card) (sym one))))
+
+-- a line with a point at a place
+pub took-short : (s : List ℕ) (at letter end : ℕ) (t : Point) (b : Begins (drop at s) letter t end) (l : Line)
+    → l ≡ coded (pointed letter (some (b .point))) → Took s at l (at + end)
+took-short s at letter end t b l e =
+    let x = pointed letter (some (b .point)) in
+    record {
+      meant = x;
+      is = e;
+      rest = ap (lines card) (b .bytes) ∙ spelled-line card (omega arith) x (b .short) (drop end (drop at s)) ∙ ap (λ (u : List ℕ). x ∷ lines card u) (drop-drop end at s);
+      later = omega arith;
+      within = omega (arith, length-drop at s);
+    }
 
 -- a place of the sheet, and one past its end
 abbrev Found : List ℕ → ℕ → Line → ℕ → Type 0

@@ -2,6 +2,7 @@
 mod header;
 mod line;
 mod point;
+mod short;
 
 pub use header::Header;
 pub use header::Opening;

@@ -9,10 +9,11 @@ ghost use Rattle.sheet.specs.Spelling.{comma, cut, readLine};
 ghost use Rattle.lines.specs.Coded.{codedPair, coded, pointed, stepped, Doubles, Took, Past};
 use crate::point::Pair;
 use crate::point::Point;
+use crate::short::MOST_BYTES;
 
 pub const LINE_FEED: u8 = b'\n';
 
-const COMMA: u8 = b',';
+pub const COMMA: u8 = b',';
 
 // A line of the sheet; the last case is a header line or one that is misspelled.
 pub enum Line {
@@ -113,6 +114,18 @@ pub fn line_at(sheet: &[u8], at: usize) -> Taken
             line: Line::Double,
             next: at + 2,
         };
+    }
+    if MOST_BYTES <= rest.len() {
+        let short = crate::short::short_line(rest);
+        if short.fits {
+            let point = short.point;
+            let line = point_line(Pair::Is(point), short.letter);
+            let next = at + short.end;
+            return Taken {
+                line: line,
+                next: next,
+            };
+        }
     }
     let end = sheet::fields::find(rest, LINE_FEED);
     if end < rest.len() {

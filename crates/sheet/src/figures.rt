@@ -15,19 +15,16 @@ pub enum Decimal {
 pub fn worth_of(byte: u8) -> u32
     ensures { λ r. ⌜ r ≡ worth byte ⌝ }
 {
-    if byte < b'0' {
-        return 16;
+    let decimal = if (b'0' <= byte) & (byte <= b'9') {
+        byte as u32 - b'0' as u32
+    } else {
+        16
+    };
+    if (b'a' <= byte) & (byte <= b'f') {
+        byte as u32 - 87
+    } else {
+        decimal
     }
-    if byte <= b'9' {
-        return byte as u32 - b'0' as u32;
-    }
-    if byte < b'a' {
-        return 16;
-    }
-    if byte <= b'f' {
-        return byte as u32 - 87;
-    }
-    16
 }
 
 // Whether every byte is a figure of the base.

@@ -1,8 +1,8 @@
 -- Reading what is spelled gives the lines back. Assumes nothing.
-use mathlib.Core.Path.{_≡_, refl, ap, ap₂, _∙_}
+use mathlib.Core.Path.{_≡_, refl, ap, _∙_}
 use mathlib.Core.Logic.{_≢_}
 use mathlib.Core.Bool.{true, and-eq-true-iff}
-use mathlib.Core.List.{List, [], _∷_}
+use mathlib.Core.List.{List, [], _∷_, _++_}
 use mathlib.Core.Option.{some}
 use Prim.Native.Nat.{ℕ, suc, _^_, _≤_, _<_}
 use Prim.Native.Char.{code}
@@ -180,13 +180,15 @@ cut-fields (add t) = cut-join (fields-lack comma refl (omega arith) (add t))
 cut-fields end = cut-join (fields-lack comma refl (omega arith) end)
 cut-fields misspelled = cut-join (fields-lack comma refl (omega arith) misspelled)
 
+-- a spelled line is read back, whatever stands behind it
+pub spelled-line : (limits : Limits) → 1 ≤ limits .figures → (l : Line) → Short limits l → (t : List ℕ)
+    → lines limits (join comma (fields l) ++ lineFeed ∷ t) ≡ l ∷ lines limits t
+spelled-line limits h l s t =
+    lines-more limits (join-lacks lineFeed comma (omega arith) (fields l) (fields-lack lineFeed refl (omega arith) l)) t
+    ∙ ap (λ (x : Line). x ∷ lines limits t) (unfold readLine in rw (cut-fields l) (read-fields limits h l s))
+
 -- reading what is spelled gives the lines back
 pub spelled-read : (limits : Limits) → 1 ≤ limits .figures → (ls : List Line) → Every (Short limits) ls → lines limits (spell ls) ≡ ls
 unfolding spell
 spelled-read limits h [] empty = lines-none limits
-spelled-read limits h (l ∷ ls) (more s r) =
-    lines-more limits (join-lacks lineFeed comma (omega arith) (fields l) (fields-lack lineFeed refl (omega arith) l)) (spell ls)
-    ∙ ap₂ (λ (x : Line) (xs : List Line). x ∷ xs) (line l s) (spelled-read limits h ls r)
-  where
-    line : (x : Line) → Short limits x → readLine limits (join comma (fields x)) ≡ x
-    line x t = unfold readLine in rw (cut-fields x) (read-fields limits h x t)
+spelled-read limits h (l ∷ ls) (more s r) = spelled-line limits h l s (spell ls) ∙ ap (λ (xs : List Line). l ∷ xs) (spelled-read limits h ls r)
