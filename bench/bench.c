@@ -1,21 +1,15 @@
 /* Times the library's calls beside plain C on the same random scalars, once both are seen to give the same answers and bytes. */
-#define _POSIX_C_SOURCE 199309L
-
+#include "field.h"
 #include "peer.h"
+#include "random.h"
 #include "sheets.h"
+#include "timing.h"
 
 #include <stdio.h>
 #include <stdlib.h>
 #include <string.h>
-#include <time.h>
 
-/* Pairs are timed in groups, so short that some pass over each goes undisturbed. */
-enum { GROUP = 16, GROUPS = 16, PAIRS = GROUP * GROUPS };
-
-/* The least number of passes over all groups, and the least time of all passes in nanoseconds. */
-enum { LEAST_PASSES = 21, LEAST_TIME = 600000000 };
-
-enum { MOST_BYTES = 66, UNTOUCHED = 0xaa };
+enum { PAIRS = INPUTS, MOST_BYTES = 66, UNTOUCHED = 0xaa };
 
 /* ---- both sides ---- */
 
@@ -45,16 +39,6 @@ struct inputs {
 struct output {
     uint8_t k_digits[SHEETS_PLACES(MOST_BYTES)], l_digits[SHEETS_PLACES(MOST_BYTES)], sheet[SHEETS_BYTES];
 };
-
-/* splitmix64, of a fixed seed. */
-static uint64_t next_random(uint64_t *state)
-{
-    uint64_t z = *state += 0x9e3779b97f4a7c15;
-
-    z = (z ^ z >> 30) * 0xbf58476d1ce4e5b9;
-    z = (z ^ z >> 27) * 0x94d049bb133111eb;
-    return z ^ z >> 31;
-}
 
 static void fill_scalars(struct inputs *in, size_t bytes)
 {
@@ -161,55 +145,28 @@ static void check(const struct work *w, const struct inputs *in)
 
 /* ---- the times ---- */
 
-/* The shortest time of each group, in nanoseconds; 0 before the first. */
-struct times {
-    double best[GROUPS];
+/* A work on one side. */
+struct task {
+    const struct calls *calls;
+    const struct work *work;
+    const struct inputs *in;
+    struct output *out;
 };
 
-static double now(void)
+static void call(void *task, size_t i)
 {
-    struct timespec t;
+    const struct task *t = task;
 
-    clock_gettime(CLOCK_MONOTONIC, &t);
-    return 1e9 * (double)t.tv_sec + (double)t.tv_nsec;
+    t->work->call(t->calls, t->work, t->in, i, t->out);
 }
 
-/* Takes each group once. */
-static void pass(const struct calls *c, const struct work *w, const struct inputs *in, struct output *out, struct times *times)
-{
-    for (size_t g = 0; g < GROUPS; g++) {
-        double start = now(), time;
-
-        for (size_t i = g * GROUP; i < (g + 1) * GROUP; i++)
-            w->call(c, w, in, i, out);
-        time = now() - start;
-        if (times->best[g] == 0 || time < times->best[g])
-            times->best[g] = time;
-    }
-}
-
-/* Nanoseconds a call. */
-static double mean(const struct times *times)
-{
-    double sum = 0;
-
-    for (size_t g = 0; g < GROUPS; g++)
-        sum += times->best[g];
-    return sum / PAIRS;
-}
-
-/* Prints a row of the table. The two sides pass in turn. */
+/* Prints a row of the table. */
 static void measure(const struct work *w, const struct inputs *in, struct output *out)
 {
-    struct times ours = {{0}}, theirs = {{0}};
-    double start = now();
+    struct task ours = {&library, w, in, out}, theirs = {&plain_c, w, in, out};
 
-    for (int i = 0; i < LEAST_PASSES || now() - start < LEAST_TIME; i++) {
-        pass(&library, w, in, out, &ours);
-        pass(&plain_c, w, in, out, &theirs);
-    }
-    printf("| %s | %zu | %.0f | %.0f | %.2f |\n", w->name, in->bytes, mean(&ours), mean(&theirs), mean(&ours) / mean(&theirs));
-    fflush(stdout);
+    printf("| %s | %zu |", w->name, in->bytes);
+    print_times((struct side){call, &ours}, (struct side){call, &theirs});
 }
 
 int main(void)
@@ -227,5 +184,6 @@ int main(void)
             check(&works[i], &in);
             measure(&works[i], &in, &out);
         }
+    print_field();
     return 0;
 }
