@@ -1,5 +1,5 @@
 /* Times the library's calls beside plain C on the same random scalars, once both are seen to give the same answers and bytes. */
-#include "field.h"
+#include "wnaf.h"
 #include "peer.h"
 #include "random.h"
 #include "sheets.h"
@@ -184,6 +184,6 @@ int main(void)
             check(&works[i], &in);
             measure(&works[i], &in, &out);
         }
-    print_field();
+    print_wnaf();
     return 0;
 }

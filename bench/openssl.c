@@ -1,5 +1,5 @@
 /* OpenSSL's wNAF, from the static libcrypto.a: the shared library does not export it, and no header declares it. */
-#include "field.h"
+#include "wnaf.h"
 #include "timing.h"
 
 #include <openssl/bn.h>

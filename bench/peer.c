@@ -12,6 +12,8 @@ enum {
     MOST_SLOTS = 30,
     JOINT_SLOTS = 2,
     MOST_DOUBLES = 528,
+    LIMB_BITS = 32,
+    LIMBS = MOST_DOUBLES / LIMB_BITS + 2,
     SHEET_BYTES = 16384
 };
 
@@ -436,12 +438,12 @@ uint64_t peer_plan_i(const uint8_t *k, size_t kn, const uint8_t *l, size_t ln, u
 
 /* Only the weights count here, so the places need not hold 0. */
 
-/* The weights of a scalar's rows, for the windows 1, 3, .. 31. */
-static void weigh_rows(const struct bits *b, unsigned *weights)
+/* The weights of a scalar's rows, for those of the windows 1, 3, .. 31 that a plan I within the limit can have. */
+static void weigh_rows(const struct bits *b, unsigned limit, unsigned *weights)
 {
     uint8_t digits[PLACES];
 
-    for (unsigned i = 0; i < WINDOWS; i++)
+    for (unsigned i = 0; i < WINDOWS && i <= limit; i++)
         weights[i] = recode_row(b, 2 * i + 1, digits).weight;
 }
 
@@ -483,7 +485,7 @@ static struct plan choose(const unsigned *k_weights, const unsigned *l_weights, 
 
 uint64_t peer_cheapest(const uint8_t *k, size_t kn, const uint8_t *l, size_t ln, uint32_t limit, uint8_t *sheet, size_t room)
 {
-    unsigned k_weights[WINDOWS], l_weights[WINDOWS];
+    unsigned k_weights[WINDOWS], l_weights[WINDOWS], joint;
     struct bits kb, lb;
 
     if (!is_scalar(kn) || !is_scalar(ln))
@@ -494,22 +496,27 @@ uint64_t peer_cheapest(const uint8_t *k, size_t kn, const uint8_t *l, size_t ln,
         return refusal(3, 0);
     kb = bits_of(k, kn);
     lb = bits_of(l, ln);
-    weigh_rows(&kb, k_weights);
-    weigh_rows(&lb, l_weights);
-    return write_sheet(choose(k_weights, l_weights, weigh_joint(&kb, &lb), limit), &kb, &lb, sheet);
+    weigh_rows(&kb, limit, k_weights);
+    weigh_rows(&lb, limit, l_weights);
+    joint = JOINT_SLOTS <= limit ? weigh_joint(&kb, &lb) : 0;
+    return write_sheet(choose(k_weights, l_weights, joint, limit), &kb, &lb, sheet);
 }
 
 /* ---- the reader ---- */
 
-/* The place on the sheet, the line there, and the first line that misses each of the questions 7 to 9; 0 where none does. */
+/*
+ * The place on the sheet, the line there, and the first line that misses each of the questions 7 to 9; 0 where none does.
+ * `place` counts the D lines to come, as many as the header's doublings leave behind those of the table: a digit is added
+ * where it stands, and a D line moves nothing. A header that claims another number is refused before the sum is asked for.
+ */
 struct reader {
     const uint8_t *at, *end;
     unsigned line, off_plan, disallowed, excess;
     struct plan plan;
     unsigned slots, additions, doublings;
     uint64_t k[WORDS], l[WORDS];
-    unsigned tables, turn, doubles, counted_additions, counted_doublings;
-    uint64_t p[WORDS], q[WORDS];
+    unsigned tables, turn, doubles, place, counted_additions, counted_doublings;
+    int64_t p[LIMBS], q[LIMBS];
 };
 
 struct point {
@@ -665,25 +672,10 @@ static unsigned turn_of(struct plan plan, struct point t)
     return t.a == 0 && is_digit(t.b, plan.m2) ? 2 : 0;
 }
 
-/* x + digit, in two's complement. */
-static void add(uint64_t *x, int digit)
+/* Adds a digit at a place. A sheet has too few lines for a limb to overflow. */
+static void add(int64_t *limb, unsigned place, int digit)
 {
-    uint64_t sign = digit < 0 ? UINT64_MAX : 0, carry;
-
-    x[0] += (uint64_t)digit;
-    carry = x[0] < (uint64_t)digit;
-    for (int i = 1; i < WORDS && carry != (sign & 1); i++) {
-        x[i] += sign + carry;
-        carry = sign ? x[i] != UINT64_MAX : x[i] == 0;
-    }
-}
-
-/* 2x */
-static void twice(uint64_t *x)
-{
-    for (int i = WORDS - 1; i > 0; i--)
-        x[i] = x[i] << 1 | x[i - 1] >> 63;
-    x[0] <<= 1;
+    limb[place / LIMB_BITS] += (int64_t)digit * ((int64_t)1 << place % LIMB_BITS);
 }
 
 static void step(struct reader *r, struct point t)
@@ -693,8 +685,8 @@ static void step(struct reader *r, struct point t)
     if (turn <= r->turn)
         miss(r, &r->disallowed);
     r->turn = turn;
-    add(r->p, t.a);
-    add(r->q, t.b);
+    add(r->p, r->place, t.a);
+    add(r->q, r->place, t.b);
 }
 
 static void lower(struct reader *r)
@@ -703,8 +695,7 @@ static void lower(struct reader *r)
     r->counted_doublings++;
     if (++r->doubles > MOST_DOUBLES)
         miss(r, &r->excess);
-    twice(r->p);
-    twice(r->q);
+    r->place -= r->place > 0;
 }
 
 static int take_tables(struct reader *r)
@@ -770,6 +761,14 @@ static int take_end(struct reader *r)
     return r->at == r->end;
 }
 
+/* The D lines that the header claims; 0 where they are none or too many. */
+static unsigned claimed(const struct reader *r)
+{
+    unsigned n = r->doublings - table_doublings(r->plan);
+
+    return n <= MOST_DOUBLES ? n : 0;
+}
+
 /* Question 6: the lines of the sheet, of which `line` is the first that is out of place. */
 static int take_sheet(struct reader *r)
 {
@@ -777,8 +776,25 @@ static int take_sheet(struct reader *r)
         return 0;
     if (!is_on_plan(r))
         miss(r, &r->off_plan);
+    r->place = claimed(r);
     r->line++;
     return take_tables(r) && take_steps(r) && take_end(r);
+}
+
+/* Whether the sum is the scalar, once its carries are taken. */
+static int is_sum(const int64_t *limb, const uint64_t *word)
+{
+    int64_t carry = 0;
+
+    for (unsigned i = 0; i < LIMBS; i++) {
+        int64_t sum = limb[i] + carry;
+        uint64_t wanted = i / 2 < WORDS ? word[i / 2] >> LIMB_BITS * (i % 2) : 0;
+
+        if ((uint32_t)sum != (uint32_t)wanted)
+            return 0;
+        carry = sum >> LIMB_BITS;
+    }
+    return carry == 0;
 }
 
 uint64_t peer_read(const uint8_t *sheet, size_t n)
@@ -797,7 +813,7 @@ uint64_t peer_read(const uint8_t *sheet, size_t n)
         return refusal(9, r.excess);
     if (r.additions != r.counted_additions || r.doublings != r.counted_doublings)
         return refusal(10, 1);
-    if (memcmp(r.p, r.k, sizeof r.p) != 0 || memcmp(r.q, r.l, sizeof r.q) != 0)
+    if (!is_sum(r.p, r.k) || !is_sum(r.q, r.l))
         return refusal(11, 1);
     return 0;
 }

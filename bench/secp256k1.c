@@ -1,5 +1,5 @@
 /* libsecp256k1's wNAF, a static function of its source: compiled with that source's src and include on the search path. */
-#include "field.h"
+#include "wnaf.h"
 #include "timing.h"
 
 #include <secp256k1.h>

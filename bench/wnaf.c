@@ -2,7 +2,7 @@
  * Times the library's rows beside the wNAFs of other libraries on the same random scalars, once both rows are seen to come to the
  * scalar with as many non-zero digits.
  */
-#include "field.h"
+#include "wnaf.h"
 #include "random.h"
 #include "sheets.h"
 #include "timing.h"
@@ -130,7 +130,7 @@ static void compare(const struct wnaf *peer, int w, size_t bytes)
     print_times((struct side){call, &ours}, (struct side){call, &theirs});
 }
 
-void print_field(void)
+void print_wnaf(void)
 {
     static const int widths[] = {2, 4, 6};
     static const size_t lengths[] = {32, 66};

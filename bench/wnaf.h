@@ -1,6 +1,6 @@
 /* The library's rows beside the width-w non-adjacent forms (wNAF) of other libraries. */
-#ifndef FIELD_H
-#define FIELD_H
+#ifndef WNAF_H
+#define WNAF_H
 
 #include <stddef.h>
 #include <stdint.h>
@@ -24,6 +24,6 @@ struct wnaf {
 extern const struct wnaf openssl_wnaf, secp256k1_wnaf;
 
 /* Prints a table of the library beside those of them that the program is built with, or nothing. */
-void print_field(void);
+void print_wnaf(void);
 
 #endif
