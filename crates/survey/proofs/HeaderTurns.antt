@@ -13,9 +13,7 @@ use Rattle.sheet.specs.Plan.{tables, slots, tableDoublings}
 use Rattle.sheet.specs.Line.{Line, Header, header}
 use Rattle.sheet.specs.Questions.{unless, tableLines, differs, disallowedFrom, disallowed, excessFrom, excess, additions, doublings, afterHeader, misplaced, offPlan, windowed}
 use Rattle.lines.specs.Coded.{kindOf, codedHeader}
-use Rattle.lines.specs.declared.point.Point as point-of
 use Rattle.survey.specs.Survey.State.{earlier, planFor, isOnPlan, claimedOf, claimed, claimedBy}
-use Rattle.survey.specs.declared.table.Tables as tables-of
 
 -- a claim keeps the limit
 pub claimed-most : (p : Plan) (n : ℕ) → claimedOf p n ≤ 528

@@ -20,7 +20,7 @@ use Rattle.survey.specs.Survey.Total.{total}
 use Rattle.survey.specs.Survey.Scan.{Answered, Faultless}
 use Rattle.survey.specs.Survey.{last, LastLeft, JudgedBy, Surveyed}
 use Rattle.survey.specs.declared.state.State.{State}
-use Rattle.survey.proofs.Claim.{claim-true}
+use Rattle.survey.specs.Survey.Total.Claim.{claim-true}
 use Rattle.survey.specs.declared.questions.Survey.{Survey}
 use Rattle.survey.specs.declared.questions.Survey.the-variants.{Missed, Met}
 

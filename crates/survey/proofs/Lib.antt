@@ -4,7 +4,6 @@ pub mod Taken
 pub mod HeaderTurns
 pub mod PhaseTurns
 pub mod StateTurns
-pub mod Claim
 pub mod Digits
 pub mod TotalTurns
 pub mod ScanTurns

@@ -9,8 +9,6 @@ use Rattle.sheet.specs.declared.Plan.{Plan}
 use Rattle.sheet.specs.Plan.{Point}
 use Rattle.sheet.specs.Line.{Line, table, load, double, add, end}
 use Rattle.sheet.specs.Questions.{isDouble, tableLines, disallowedFrom, excessFrom, additions, doublings, afterHeader, afterLoad}
-use Rattle.lines.specs.declared.point.Point as point-of
-use Rattle.survey.specs.declared.table.Tables as tables-of
 
 module _ (n : ℕ) (ls : List Line) (x : Point) where
   pub header-table : afterHeader (n + 1) ls ≡ afterHeader n (table x ∷ ls)

@@ -10,7 +10,7 @@ use Rattle.digits.specs.Limits.{card}
 use Rattle.sheet.specs.declared.Plan.{Plan}
 use Rattle.sheet.specs.Plan.{Point, slots, tables, tableDoublings}
 use Rattle.sheet.specs.Line as spec
-use Rattle.sheet.specs.Line.{planOf, header, table, load, double, add, end, misspelled}
+use Rattle.sheet.specs.Line.{planOf, header, table, load, double, add}
 use Rattle.sheet.specs.Questions.{windowed, samePoint, tableLines, differs, turn, disallowedFrom, excessFrom, additions, doublings, afterHeader, afterLoad, afterEnd, misplaced, offPlan, disallowed, excess}
 use Rattle.lines.specs.Coded.{kindOf, codedPoint, codedHeader}
 use Rattle.survey.specs.Survey.Total.{placesAfter}

@@ -1,4 +1,5 @@
 -- What the steps of a sheet come to, each added at its place, which is the number of D lines to come.
+pub mod Claim
 use mathlib.Core.List.{List, [], _∷_}
 use Prim.Native.Nat.{ℕ, suc, _-_, _^_}
 use lib.IntN.{ℤ, pos, _+ℤ_, _*ℤ_}

@@ -5,7 +5,7 @@ use Prim.Native.Nat.{ℕ, _-_, _≤_, _<_}
 use borrow.Author.Tests.{le-leb, lt-leb}
 use Rattle.sheet.specs.declared.Plan.{Plan}
 use Rattle.sheet.specs.Plan.{tableDoublings}
-use Rattle.survey.specs.Survey.State.{planFor, claimedOf, claimed}
+use Rattle.survey.specs.Survey.State.{planFor, claimed}
 use Rattle.lines.specs.declared.header.Header.{Header}
 use borrow.Author.Needs.{needs}
 use Rattle.survey.proofs.header.claimed.Statement.{statement}

@@ -1,4 +1,4 @@
--- `survey_into` meets its contract: each return is one line of Judged, and the sums are those of all lines (Claim).
+-- `survey_into` meets its contract: each return is one line of Judged, and the sums are those of all lines (Survey.Total.Claim).
 use native.Mathlib.Omega.{arith}
 use mathlib.Core.Path.{_≡_, sym, ap, subst, _∙_}
 use mathlib.Core.List.{List, []}

@@ -1,5 +1,5 @@
 -- A header that tells the truth claims the D lines of its sheet, and with so many places to come the steps add up to the result.
-use mathlib.Core.Path.{_≡_, refl, sym, ap, subst, _∙_}
+use mathlib.Core.Path.{_≡_, refl, sym, ap, _∙_}
 use mathlib.Core.List.{List, [], _∷_, _++_, map}
 use mathlib.Core.Option.{none}
 use Prim.Native.Nat.{ℕ, zero, suc, _+_, _-_, _*_, _^_, _≤_}
@@ -13,7 +13,7 @@ use Rattle.digits.specs.Integer.Parts.{integers, sum, times}
 use Rattle.digits.specs.Two.{Two, P, Q, digit}
 use Rattle.sheet.specs.Plan.{Point, point, tables, tableDoublings}
 use Rattle.sheet.specs.Plan.Cost.{doublings-append, tables-doublings}
-use Rattle.sheet.specs.Line.{Header, Line, plan, header, table, load, double, add, end}
+use Rattle.sheet.specs.Line.{Header, Line, plan, header, table, end}
 use Rattle.sheet.specs.Questions.{misplaced, offPlan, excess, excessFrom, doublings, plus, held, result}
 use Rattle.sheet.specs.Questions.Placed.{laid-out, LaidOut, fault}
 use Rattle.sheet.specs.Questions.Planned.{planned-of}
