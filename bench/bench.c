@@ -1,9 +1,9 @@
 /* Times the library's calls beside plain C on the same random scalars, once both are seen to give the same answers and bytes. */
-#include "wnaf.h"
 #include "peer.h"
 #include "random.h"
 #include "sheets.h"
 #include "timing.h"
+#include "wnaf.h"
 
 #include <stdio.h>
 #include <stdlib.h>

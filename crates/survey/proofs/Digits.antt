@@ -37,9 +37,8 @@ pub empty-drop : (i : ℕ) → i < limbs → value (drop i empty) ≡ start + li
 unfolding value
 empty-drop i h = ap value (drop-cons empty i 0 (omega (arith, empty-long))) ∙ ap (λ (n : ℕ). n + limb * value (drop (suc i) empty)) (empty-limb i h)
 
--- ── a digit ─────────────────────────────────────────────────────────────────────────────────
+-- ── a digit by its sign and its size ────────────────────────────────────────────────────────
 
--- by its sign and its size
 pub sign-minus : (s : Signed) → s .negative ≡ true → (up (whole s) ≡ 0) × (down (whole s) ≡ s .size)
 sign-minus s e =
     subst (λ (b : Bool). (up (wholeOf b (s .size)) ≡ 0) × (down (wholeOf b (s .size)) ≡ s .size)) (sym e)
@@ -48,7 +47,7 @@ sign-minus s e =
 pub sign-plus : (s : Signed) → s .negative ≡ false → (up (whole s) ≡ s .size) × (down (whole s) ≡ 0)
 sign-plus s e = subst (λ (b : Bool). (up (wholeOf b (s .size)) ≡ s .size) × (down (wholeOf b (s .size)) ≡ 0)) (sym e) (refl, refl)
 
--- ── a limb replaced ──────────────────────────────────────────────────────────────────────────
+-- ── a digit at its place ────────────────────────────────────────────────────────────────────
 
 -- a limb replaced
 value-set : (xs : List ℕ) (i y : ℕ) → i < length xs → value (set xs i y) + getD xs i 0 * limb ^ i ≡ value xs + y * limb ^ i

@@ -10,7 +10,7 @@ use Rattle.sheet.specs.Plan.{Point}
 use Rattle.sheet.specs.Line.{Header, Line, header, table, load, double, add, end, misspelled}
 use Rattle.lines.specs.Coded.{signed, whole, codedPoint, coded}
 use Rattle.lines.specs.declared.point.Point as point-of
-use Rattle.lines.specs.declared.line.Line.the-variants.{Table, Double, End, Other}
+use Rattle.lines.specs.declared.line.Line.the-variants.{Table, Load, Double, Add, End, Other}
 use Rattle.lines.proofs.Was.{was}
 use Rattle.survey.specs.Sum.{most, Holds, Added}
 use Rattle.survey.proofs.Digits.{holds-later}
@@ -34,11 +34,16 @@ whole-digit Q t y e = ap (wholeIn Q) e ∙ whole-signed (y .q)
 
 module _ (r : Two) (n : ℕ) {xs : List ℕ} where
   -- a step
-  pub step-adds : {ys : List ℕ} (t : point-of.Point) (y : Point) → t ≡ codedPoint y → Added n (wholeIn r t) xs ys → (x : Line) → (x ≡ load y) ⊎ (x ≡ add y) → Adds r n x xs ys
-  step-adds {ys} t y e a x (inl i) =
-      λ m z h. subst (λ (l : Line). Holds (suc m) ys (sumAfter r n z l)) (sym i) (subst (λ (d : ℤ). Holds (suc m) ys (z +ℤ pos (2 ^ n) *ℤ d)) (whole-digit r t y e) (a m z h))
-  step-adds {ys} t y e a x (inr i) =
-      λ m z h. subst (λ (l : Line). Holds (suc m) ys (sumAfter r n z l)) (sym i) (subst (λ (d : ℤ). Holds (suc m) ys (z +ℤ pos (2 ^ n) *ℤ d)) (whole-digit r t y e) (a m z h))
+  step-adds : {ys : List ℕ} (t : point-of.Point) (y : Point) → t ≡ codedPoint y → Added n (wholeIn r t) xs ys → (x l : Line) → x ≡ l
+      → ((z : ℤ) → sumAfter r n z l ≡ z +ℤ pos (2 ^ n) *ℤ digit y r) → Adds r n x xs ys
+  step-adds {ys} t y e a x l i s =
+      λ m z h. subst (Holds (suc m) ys) (ap (λ (d : ℤ). z +ℤ pos (2 ^ n) *ℤ d) (whole-digit r t y e) ∙ sym (ap (sumAfter r n z) i ∙ s z)) (a m z h)
+
+  pub load-adds : {ys : List ℕ} (x : Line) (t : point-of.Point) → coded x ≡ Load t → Added n (wholeIn r t) xs ys → Adds r n x xs ys
+  load-adds x t e a = let w = was x e in step-adds t (w .0) (w .2) a x (load (w .0)) (w .1) (λ z. refl)
+
+  pub add-adds : {ys : List ℕ} (x : Line) (t : point-of.Point) → coded x ≡ Add t → Added n (wholeIn r t) xs ys → Adds r n x xs ys
+  add-adds x t e a = let w = was x e in step-adds t (w .0) (w .2) a x (add (w .0)) (w .1) (λ z. refl)
 
   -- a line that is no step
   same-adds : (x l : Line) → x ≡ l → ((z : ℤ) → sumAfter r n z l ≡ z) → Adds r n x xs xs

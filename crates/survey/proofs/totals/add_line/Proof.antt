@@ -1,9 +1,7 @@
 -- `add_line` meets its contract, by cases on the line.
 use mathlib.Core.Path.{sym, _∙_}
-use mathlib.Core.Logic.{inl, inr}
 use Rattle.digits.specs.Two.{P, Q}
-use Rattle.lines.proofs.Was.{was}
-use Rattle.survey.proofs.TotalTurns.{step-adds, table-adds, double-adds, end-adds, other-adds}
+use Rattle.survey.proofs.TotalTurns.{load-adds, add-adds, table-adds, double-adds, end-adds, other-adds}
 use borrow.Author.Needs.{needs}
 use Rattle.survey.proofs.totals.add_line.Statement.{statement}
 use Rattle.survey.proofs.totals.add_line.Tie as tie
@@ -48,8 +46,8 @@ returns-2 : tie.Need-returns-2
 returns-2 c =
     let a = c .before .before .before .before .add-point in
     let l = c .before .before .before .before .before .before .before .before .line .given in (
-      λ x e. let w = was x (sym e ∙ l .1) in step-adds P _ _ (w .0) (w .2) (a .ensures .0) x (inl (w .1)),
-      λ x e. let w = was x (sym e ∙ l .1) in step-adds Q _ _ (w .0) (w .2) (a .ensures .1) x (inl (w .1)),
+      λ x e. load-adds P _ x _ (sym e ∙ l .1) (a .ensures .0),
+      λ x e. load-adds Q _ x _ (sym e ∙ l .1) (a .ensures .1),
     )
 
 returns-3 : tie.Need-returns-3
@@ -68,8 +66,8 @@ returns-4 : tie.Need-returns-4
 returns-4 c =
     let a = c .before .before .before .before .add-point2 in
     let l = c .before .before .before .before .before .before .before .before .line2 .given in (
-      λ x e. let w = was x (sym e ∙ l .1) in step-adds P _ _ (w .0) (w .2) (a .ensures .0) x (inr (w .1)),
-      λ x e. let w = was x (sym e ∙ l .1) in step-adds Q _ _ (w .0) (w .2) (a .ensures .1) x (inr (w .1)),
+      λ x e. add-adds P _ x _ (sym e ∙ l .1) (a .ensures .0),
+      λ x e. add-adds Q _ x _ (sym e ∙ l .1) (a .ensures .1),
     )
 
 returns-5 : tie.Need-returns-5
