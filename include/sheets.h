@@ -1,6 +1,6 @@
 /*
- * Double-and-add sheets for kP + lQ: the calls for a host program in C. Link with libhost.a, which `rt staticlib host` writes for
- * x86-64 Linux.
+ * Double-and-add sheets for kP + lQ: the calls for a host program in C on x86-64 Linux. Link with libsheets.a, by what
+ * `pkg-config --cflags --libs sheets` says.
  *
  * Scalars are unsigned numbers of 1 to 66 bytes, the most significant byte first; leading zero bytes and zero are allowed.
  * Digits are one byte each in two's complement, the least significant place (place 0) first; a digit buffer may be read as int8_t.

@@ -5,6 +5,7 @@ use crate::lent::Lent;
 use crate::outcome::{Claim, Outcome};
 use reference::calls::{Answer, Call};
 use reference::random::Random;
+use std::fmt::{Arguments, Debug};
 
 pub struct Judge {
     fills: Random,
@@ -44,6 +45,14 @@ impl Judge {
         self.compare_filled(call, &call.answer(), fill, Some(claim));
     }
 
+    /// Holds what was found out about sheets against what it has to be.
+    pub fn hold<T: PartialEq + Debug>(&mut self, what: Arguments, expected: T, got: T) {
+        self.compared += 1;
+        if got != expected {
+            self.fail(&what.to_string(), &format!("{expected:?}"), &format!("{got:?}"));
+        }
+    }
+
     /// Repeats a call whose guards and buffers were first filled from this number.
     pub fn repeat(&mut self, call: &Call, fill: u64) {
         self.compare_filled(call, &call.answer(), fill, None);
@@ -79,20 +88,21 @@ impl Judge {
         };
         self.compared += 1;
         if let Some((expected, got)) = difference {
-            self.fail(call, fill, &expected, &got);
+            let mut failed = format!("repeat with: tests/differential/run {call} {fill}");
+            if let Call::Read { sheet } = call {
+                failed += &format!("\nsheet: \"{}\"", sheet.escape_ascii());
+            }
+            self.fail(&failed, &expected, &got);
         }
         got
     }
 
-    fn fail(&mut self, call: &Call, fill: u64, expected: &str, got: &str) {
+    fn fail(&mut self, what: &str, expected: &str, got: &str) {
         self.failed += 1;
         if self.failed > 1 {
             return;
         }
-        println!("FAILED; repeat with: tests/differential/run {call} {fill}");
-        if let Call::Read { sheet } = call {
-            println!("sheet: \"{}\"", sheet.escape_ascii());
-        }
+        println!("FAILED; {what}");
         println!("expected: {expected}");
         println!("got: {got}");
     }

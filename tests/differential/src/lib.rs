@@ -3,12 +3,15 @@
 
 pub mod big;
 pub mod calls;
+pub mod card;
+pub mod carry_stops;
 pub mod cheapest;
 pub mod damage;
 pub mod edges;
 pub mod foreign;
 pub mod joint;
 pub mod least;
+pub mod licences;
 pub mod plan;
 pub mod random;
 pub mod reader;

@@ -57,6 +57,12 @@ fn compare_everything(judge: &mut Judge, seed: u64) {
             println!("  reads answered {number}: {count}");
         }
     });
+    section(judge, "licences", |judge| {
+        let found = runs::licences::run(judge, random);
+        let runs::licences::Found { licences, sheets, operations, spoiled } = found;
+        println!("  {sheets} sheets run on a card in software, {operations} group operations");
+        println!("  a carry that stops spoils {spoiled} of {licences} real licences");
+    });
 }
 
 fn section(judge: &mut Judge, name: &str, run: impl FnOnce(&mut Judge)) {

@@ -2,6 +2,7 @@
 
 pub mod cheapest;
 pub mod joint_forms;
+pub mod licences;
 pub mod plans;
 pub mod reads;
 pub mod rows;

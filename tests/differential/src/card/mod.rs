@@ -1,0 +1,111 @@
+//! A card in software: it has P, Q and what the T lines stored, and makes one group operation for
+//! each T, D and A line.
+
+pub mod curve;
+pub mod modular;
+
+use curve::{Curve, Point};
+use std::collections::HashMap;
+
+/// What a card came to, and by how many group operations.
+pub struct Run {
+    pub result: Point,
+    pub additions: usize,
+    pub doublings: usize,
+}
+
+struct Card<'a> {
+    curve: &'a Curve,
+    /// The points at hand, aP + bQ under (a, b).
+    stored: HashMap<(i32, i32), Point>,
+    /// 2P while multiples of P are stored, then 2Q.
+    double: Point,
+    run: Run,
+}
+
+/// Runs the lines of a sheet for P and Q; none where a line is not one that the card can carry
+/// out. The header is not looked at.
+pub fn run(curve: &Curve, p: Point, q: Point, sheet: &str) -> Option<Run> {
+    let stored = HashMap::from([((1, 0), p), ((0, 1), q)]);
+    let run = Run { result: None, additions: 0, doublings: 0 };
+    let mut card = Card { curve, stored, double: None, run };
+    for line in sheet.lines().skip(1) {
+        let words: Vec<&str> = line.split(',').collect();
+        match words[..] {
+            ["T", a, b] => card.store(a.parse().ok()?, b.parse().ok()?)?,
+            ["L", a, b] => card.run.result = card.point(a.parse().ok()?, b.parse().ok()?)?,
+            ["D"] => card.run.result = card.doubled(card.run.result),
+            ["A", a, b] => {
+                let point = card.point(a.parse().ok()?, b.parse().ok()?)?;
+                card.run.result = card.sum(card.run.result, point);
+            }
+            ["E"] => return Some(card.run),
+            _ => return None,
+        }
+    }
+    None
+}
+
+impl Card<'_> {
+    fn store(&mut self, a: i32, b: i32) -> Option<()> {
+        let point = match (a, b) {
+            (2, 0) | (0, 2) => {
+                self.double = self.doubled(self.point(a / 2, b / 2)?);
+                return Some(());
+            }
+            (1, _) => self.sum(self.point(1, 0)?, self.point(0, b)?),
+            (_, 0) => self.sum(self.point(a - 2, 0)?, self.double),
+            (0, _) => self.sum(self.point(0, b - 2)?, self.double),
+            _ => return None,
+        };
+        self.stored.insert((a, b), point);
+        Some(())
+    }
+
+    /// The point aP + bQ, if it or its negative is at hand.
+    fn point(&self, a: i32, b: i32) -> Option<Point> {
+        let negated = || self.stored.get(&(-a, -b)).map(|&point| self.curve.negated(point));
+        self.stored.get(&(a, b)).copied().or_else(negated)
+    }
+
+    fn doubled(&mut self, point: Point) -> Point {
+        self.run.doublings += 1;
+        self.curve.doubled(point)
+    }
+
+    fn sum(&mut self, one: Point, other: Point) -> Point {
+        self.run.additions += 1;
+        self.curve.sum(one, other)
+    }
+}
+
+#[cfg(test)]
+mod tests {
+    use super::*;
+    use crate::licences;
+    use crate::samples::SEVEN_AND_TWO;
+
+    #[test]
+    fn seven_p_and_two_q() {
+        let curve = &licences::all().curves[0];
+        let p = curve.g;
+        let q = curve.doubled(curve.doubled(p));
+        let run = run(curve, p, q, SEVEN_AND_TWO).expect("lines that a card can carry out");
+        let eight = curve.doubled(q);
+        let fifteen = curve.sum(curve.doubled(eight), curve.negated(p));
+        assert_eq!(run.result, fifteen);
+        assert_eq!((run.additions, run.doublings), (2, 3));
+    }
+
+    #[test]
+    fn a_point_that_is_not_stored_is_not_at_hand() {
+        let curve = &licences::all().curves[0];
+        let runs = |sheet| run(curve, curve.g, curve.g, sheet).is_some();
+        assert!(runs("S\nT,2,0\nT,3,0\nL,-3,0\nE\n"));
+        assert!(!runs("S\nL,3,0\nE\n"));
+        assert!(!runs("S\nT,2,0\nT,3,0\nL,2,0\nE\n"));
+        assert!(!runs("S\nL,1,1\nE\n"));
+        assert!(!runs("S\nL,1,0\n"));
+        assert!(!runs("S\nL,1,0\nX\nE\n"));
+    }
+}

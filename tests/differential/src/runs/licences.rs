@@ -1,0 +1,188 @@
+//! Real licences, checked by a card in software that runs the archive's sheets; and what becomes of
+//! them with a recoder whose carry stops.
+
+use super::ROOM;
+use crate::judge::Judge;
+use reference::calls::{Answer, Call};
+use reference::card::modular::Number;
+use reference::card::{self, Run};
+use reference::carry_stops;
+use reference::licences::{self, Licence};
+use reference::plan::Plan;
+use reference::random::Random;
+use reference::scalars;
+use reference::sheet::{columns, Sheet};
+
+const LIMITS: [u32; 8] = [0, 1, 2, 3, 5, 8, 15, 30];
+const WINDOWS: [(u32, u32); 5] = [(1, 1), (3, 1), (5, 7), (15, 9), (31, 31)];
+
+/// A scalar with a 32-bit word of ones to which a carry comes.
+const WITH_A_WORD_OF_ONES: &str = "1234567890abcdefffffffffc0ffee11";
+
+/// What the run came to.
+#[derive(Default)]
+pub struct Found {
+    pub licences: usize,
+    pub sheets: usize,
+    pub operations: usize,
+    /// The licences that the wrong recoder spoils.
+    pub spoiled: usize,
+}
+
+pub fn run(judge: &mut Judge, random: &mut Random) -> Found {
+    let licences = licences::all().licences;
+    let mut trial = Trial { judge, random, found: Found::default() };
+    for licence in &licences {
+        trial.real(licence);
+    }
+    for licence in licences.iter().step_by(20) {
+        let u1 = Number::from_hex(WITH_A_WORD_OF_ONES).expect("hexadecimal figures");
+        trial.made(&licence.with_scalars(u1, licence.r));
+    }
+    trial.found
+}
+
+struct Trial<'a> {
+    judge: &'a mut Judge,
+    random: &'a mut Random,
+    found: Found,
+}
+
+impl Trial<'_> {
+    /// A real licence verifies by every sheet; with a bit of it changed, or a sign of a sheet turned,
+    /// it does not. It does by the wrong recoder's sheet.
+    fn real(&mut self, licence: &Licence) {
+        self.found.licences += 1;
+        for call in calls(licence) {
+            self.check(licence, &call, true);
+        }
+        for changed in self.changed(licence) {
+            let call = cheapest(&changed, self.random.pick(&LIMITS));
+            self.check(&changed, &call, false);
+        }
+        self.sign_turned(licence);
+        let survives = self.survives(licence);
+        self.judge.hold(format_args!("a real licence by a carry that stops"), true, survives);
+        self.found.spoiled += usize::from(!survives);
+    }
+
+    /// A licence made for the wrong recoder verifies by every sheet, and not by the wrong one.
+    fn made(&mut self, licence: &Licence) {
+        for call in calls(licence) {
+            self.check(licence, &call, true);
+        }
+        let survives = self.survives(licence);
+        self.judge.hold(format_args!("the licence made for a carry that stops"), false, survives);
+    }
+
+    /// Orders the sheet and runs it: it finds the licence valid or not, by as many group operations
+    /// as its header counts.
+    fn check(&mut self, licence: &Licence, call: &Call, valid: bool) {
+        let sheet = self.order(call);
+        let run = self.run(licence, &sheet);
+        let finds = run.as_ref().map(|run| licence.is_valid(run.result));
+        self.judge.hold(format_args!("is it valid, by {call}"), Some(valid), finds);
+        let made = run.map(|run| (run.additions, run.doublings));
+        self.judge.hold(format_args!("operations, by {call}"), counted(&sheet), made);
+    }
+
+    fn order(&mut self, call: &Call) -> String {
+        let outcome = self.judge.compare(call);
+        String::from_utf8_lossy(outcome.sheet().unwrap_or_default()).into_owned()
+    }
+
+    fn run(&mut self, licence: &Licence, sheet: &str) -> Option<Run> {
+        let run = card::run(&licence.curve, licence.curve.g, licence.q, sheet)?;
+        self.found.sheets += 1;
+        self.found.operations += run.additions + run.doublings;
+        Some(run)
+    }
+
+    /// The licence with one bit changed: of the digest, of r, and of s.
+    fn changed(&mut self, licence: &Licence) -> [Licence; 3] {
+        let mut change = |number: Number| number.with_bit_changed(self.random.below(250));
+        [
+            Licence { z: change(licence.z), ..licence.clone() },
+            Licence { r: change(licence.r), ..licence.clone() },
+            Licence { s: change(licence.s), ..licence.clone() },
+        ]
+    }
+
+    /// With the sign of one digit turned the reader refuses the sheet, and the card does not find
+    /// the licence valid.
+    fn sign_turned(&mut self, licence: &Licence) {
+        let call = cheapest(licence, self.random.pick(&LIMITS));
+        let sheet = self.order(&call);
+        let steps = sheet.lines().filter(|line| is_step(line)).count();
+        let turned = with_step_turned(&sheet, self.random.below(steps));
+        let read = Call::Read { sheet: turned.clone().into_bytes() };
+        self.judge.compare_with(&read, &Answer::refused(11, 1));
+        let finds = self.run(licence, &turned).map(|run| licence.is_valid(run.result));
+        self.judge.hold(format_args!("is it valid, by {call}, a sign turned"), Some(false), finds);
+    }
+
+    /// Does the licence verify by the wrong recoder's sheet? Where it does not, the reader refuses
+    /// the sheet.
+    fn survives(&mut self, licence: &Licence) -> bool {
+        let (k, l) = licence.scalars();
+        let plan = Plan::Interleaved { m1: 1, m2: 1 };
+        let columns = columns(&carry_stops::recode(&k), &carry_stops::recode(&l));
+        let sheet = Sheet::from_columns(plan, scalars::value(&k), scalars::value(&l), &columns);
+        let run = self.run(licence, &sheet.to_string());
+        let valid = run.is_some_and(|run| licence.is_valid(run.result));
+        let answer = if valid { Answer::Accepted } else { Answer::refused(11, 1) };
+        self.judge.compare_with(&Call::Read { sheet: sheet.to_bytes() }, &answer);
+        valid
+    }
+}
+
+/// The sheets that are ordered for a licence.
+fn calls(licence: &Licence) -> Vec<Call> {
+    let (k, l) = licence.scalars();
+    let mut calls = vec![Call::PlanJ { k: k.clone(), l: l.clone(), room: ROOM }];
+    calls.extend(WINDOWS.map(|(m1, m2)| {
+        let (k, l) = (k.clone(), l.clone());
+        Call::PlanI { k, l, m1, m2, room: ROOM }
+    }));
+    calls.extend(LIMITS.map(|limit| cheapest(licence, limit)));
+    calls
+}
+
+fn cheapest(licence: &Licence, limit: u32) -> Call {
+    let (k, l) = licence.scalars();
+    Call::Cheapest { k, l, limit, room: ROOM }
+}
+
+/// The additions and the doublings of a sheet's header.
+fn counted(sheet: &str) -> Option<(usize, usize)> {
+    let mut fields = sheet.lines().next()?.split(',').skip(5);
+    Some((fields.next()?.parse().ok()?, fields.next()?.parse().ok()?))
+}
+
+/// Is this line a load or an addition?
+fn is_step(line: &str) -> bool {
+    line.starts_with(['L', 'A'])
+}
+
+/// The sheet with the first digit of one step negated, or the second where the first is 0.
+fn with_step_turned(sheet: &str, which: usize) -> String {
+    let mut steps = 0;
+    let mut turned = String::new();
+    for line in sheet.lines() {
+        if is_step(line) && steps == which {
+            turned += &turn(line);
+        } else {
+            turned += line;
+        }
+        turned.push('\n');
+        steps += usize::from(is_step(line));
+    }
+    turned
+}
+
+fn turn(step: &str) -> String {
+    let fields: Vec<&str> = step.split(',').collect();
+    let digit = |at: usize| fields[at].parse::<i8>().expect("a digit");
+    let (a, b) = if digit(1) == 0 { (0, -digit(2)) } else { (-digit(1), digit(2)) };
+    format!("{},{a},{b}", fields[0])
+}
