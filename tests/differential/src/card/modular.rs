@@ -196,8 +196,8 @@ impl Modulus {
         self.below_modulus(sum, above == 1)
     }
 
-    /// The inverse of a number below the modulus that has one: a is x × u and b is x × v
-    /// throughout, and a comes to 0 with b at 1.
+    /// The inverse of a number below the modulus that has one: modulo the modulus a is x × u and b
+    /// is x × v throughout, and a comes to 0 with b at 1.
     fn inverse(&self, x: Number) -> Number {
         let words = self.words;
         let (mut a, mut u, mut b, mut v) = (x, Number::ONE, self.modulus, Number::ZERO);
