@@ -109,8 +109,8 @@ static const struct work works[] = {
     [WIDEST] = {"plan I 31, 31", plan_i, 31, 31, NULL},
     {"cheapest, limit 0", cheapest, 0, 0, NULL},
     {"cheapest, limit 8", cheapest, 8, 0, NULL},
-    [LARGEST] = {"cheapest, limit 30", cheapest, 30, 0, NULL},
-    {"read, cheapest, limit 30", read_sheet, 0, 0, &works[LARGEST]},
+    [LARGEST] = {"cheapest, limit 31", cheapest, 31, 0, NULL},
+    {"read, cheapest, limit 31", read_sheet, 0, 0, &works[LARGEST]},
     {"read, plan I 31, 31", read_sheet, 0, 0, &works[WIDEST]},
 };
 

@@ -9,7 +9,7 @@ enum {
     WORDS = 9,
     WIDEST = 31,
     WINDOWS = 16,
-    MOST_SLOTS = 30,
+    MOST_SLOTS = 31,
     JOINT_SLOTS = 2,
     MOST_DOUBLES = 528,
     LIMB_BITS = 32,
@@ -231,7 +231,7 @@ static struct plan plan_j(void)
 
 static unsigned slots_of(struct plan plan)
 {
-    return plan.joint ? JOINT_SLOTS : (plan.m1 + plan.m2 - 2) / 2;
+    return plan.joint ? JOINT_SLOTS : (plan.m1 + plan.m2 - 2) / 2 + (plan.m1 >= 3 || plan.m2 >= 3);
 }
 
 static unsigned table_additions(struct plan plan)
@@ -438,12 +438,18 @@ uint64_t peer_plan_i(const uint8_t *k, size_t kn, const uint8_t *l, size_t ln, u
 
 /* Only the weights count here, so the places need not hold 0. */
 
-/* The weights of a scalar's rows, for those of the windows 1, 3, .. 31 that a plan I within the limit can have. */
+/* How many of the windows 1, 3, .. 31 a plan I within the limit can have: one slot is for the double, and each behind 1 needs one more. */
+static unsigned windows_within(unsigned limit)
+{
+    return limit < 2 ? 1 : limit < WINDOWS ? limit : WINDOWS;
+}
+
+/* The weights of a scalar's rows for these windows. */
 static void weigh_rows(const struct bits *b, unsigned limit, unsigned *weights)
 {
     uint8_t digits[PLACES];
 
-    for (unsigned i = 0; i < WINDOWS && i <= limit; i++)
+    for (unsigned i = 0; i < windows_within(limit); i++)
         weights[i] = recode_row(b, 2 * i + 1, digits).weight;
 }
 
@@ -470,8 +476,8 @@ static struct plan choose(const unsigned *k_weights, const unsigned *l_weights, 
         best = plan_j();
         least = cost_of(best, joint);
     }
-    for (unsigned i = 0; i < WINDOWS && i <= limit; i++)
-        for (unsigned j = 0; j < WINDOWS && i + j <= limit; j++) {
+    for (unsigned i = 0; i < windows_within(limit); i++)
+        for (unsigned j = 0; j < WINDOWS && slots_of(plan_i(2 * i + 1, 2 * j + 1)) <= limit; j++) {
             struct plan plan = plan_i(2 * i + 1, 2 * j + 1);
             unsigned cost = cost_of(plan, k_weights[i] + l_weights[j]);
 

@@ -14,7 +14,7 @@
  *    2   is each window odd, 1 to 31?
  *    3   has each buffer room: a digit buffer 8 places for each byte of the scalar, of the longer one for two, and one more
  *        (SHEETS_PLACES); a sheet buffer 16,384 bytes (SHEETS_BYTES)?
- *    4   is the slot limit at most 30?
+ *    4   is the slot limit at most 31?
  *
  * A refusal changes no byte of any buffer. What is handed in as const is only read. Nothing is kept between calls, and nothing is
  * allocated.
@@ -58,7 +58,10 @@ uint64_t sheets_plan_j(const uint8_t *k, size_t kn, const uint8_t *l, size_t ln,
 /* The sheet of plan I with the windows m1 for P and m2 for Q. Questions 1, 2, 3. */
 uint64_t sheets_plan_i(const uint8_t *k, size_t kn, const uint8_t *l, size_t ln, uint32_t m1, uint32_t m2, uint8_t *sheet, size_t room);
 
-/* The cheapest sheet over plan J and all plans I that need no more slots than the limit. Questions 1, 4, 3. */
+/*
+ * The cheapest sheet over plan J and all plans I that need no more slots than the limit. Questions 1, 4, 3. Plan J needs 2 slots, plan I
+ * (m1 + m2 - 2) / 2 for the multiples that it stores, and 1 for the double of P, and later of Q, if m1 or m2 is 3 or more.
+ */
 uint64_t sheets_cheapest(const uint8_t *k, size_t kn, const uint8_t *l, size_t ln, uint32_t limit, uint8_t *sheet, size_t room);
 
 /*

@@ -431,7 +431,7 @@ static void sheet_refused(struct order o, struct bytes k, struct bytes l, size_t
 static void windows_begin(uint32_t m1, uint32_t m2, int line)
 {
     char begins[32];
-    snprintf(begins, sizeof begins, "S,I,%u,%u,%u,", (unsigned)m1, (unsigned)m2, (unsigned)((m1 + m2 - 2) / 2));
+    snprintf(begins, sizeof begins, "S,I,%u,%u,%u,", (unsigned)m1, (unsigned)m2, (unsigned)((m1 + m2 - 2) / 2 + (m1 >= 3 || m2 >= 3)));
     sheet_begins(plan_i(m1, m2), any_scalar(1 + next_number() % 66), any_scalar(1 + next_number() % 66), begins, line);
 }
 
@@ -440,7 +440,7 @@ static const char seven_two[] = "S,I,1,1,0,2,3,7,2\nL,1,0\nD\nD\nA,0,1\nD\nA,-1,
 static const char thirteen_ten[] =
     "S,J,1,1,2,5,4,d,a\nT,1,1\nT,1,-1\nL,1,0\nD\nA,0,1\nD\nD\nA,-1,1\nD\nA,-1,0\nE\n";
 
-static const char nine[] = "S,I,5,1,2,3,4,9,0\nT,2,0\nT,3,0\nT,5,0\nL,1,0\nD\nD\nD\nA,1,0\nE\n";
+static const char nine[] = "S,I,5,1,3,3,4,9,0\nT,2,0\nT,3,0\nT,5,0\nL,1,0\nD\nD\nD\nA,1,0\nE\n";
 
 static void sheets(void)
 {
@@ -451,24 +451,28 @@ static void sheets(void)
     sheet_is(cheapest(0), byte(7), byte(2), seven_two, __LINE__);
     sheet_begins(cheapest(1), byte(3), byte(0), "S,I,1,1,0,1,2,3,0\n", __LINE__);
 
+    /* windows 3, 1 need two slots */
+    sheet_begins(cheapest(1), byte(45), byte(0), "S,I,1,1,0,3,6,2d,0\n", __LINE__);
+    sheet_begins(cheapest(2), byte(45), byte(0), "S,I,3,1,2,2,5,2d,0\n", __LINE__);
+
     /* sheets of a named plan */
     sheet_is(plan_i(1, 1), byte(7), byte(2), seven_two, __LINE__);
     sheet_is(plan_j, byte(13), byte(10), thirteen_ten, __LINE__);
     sheet_is(plan_i(5, 1), byte(9), byte(0), nine, __LINE__);
     sheet_is(plan_j, byte(0), byte(0), "S,J,1,1,2,2,0,0,0\nT,1,1\nT,1,-1\nE\n", __LINE__);
     sheet_is(plan_i(1, 1), filled(0, 66), byte(0), "S,I,1,1,0,0,0,0,0\nE\n", __LINE__);
-    sheet_is(cheapest(30), byte(0), byte(0), "S,I,1,1,0,0,0,0,0\nE\n", __LINE__);
+    sheet_is(cheapest(31), byte(0), byte(0), "S,I,1,1,0,0,0,0,0\nE\n", __LINE__);
 
     /* the longest scalars, every window, every limit, scalars of every length */
     sheet_begins(plan_j, filled(255, 66), filled(255, 66), "S,J,1,1,2,", __LINE__);
     sheet_begins(plan_j, filled(85, 66), filled(255, 66), "S,J,1,1,2,", __LINE__);
     sheet_begins(plan_i(1, 1), filled(85, 66), filled(85, 66), "S,I,1,1,0,", __LINE__);
-    sheet_begins(plan_i(31, 31), filled(255, 66), filled(255, 66), "S,I,31,31,30,", __LINE__);
+    sheet_begins(plan_i(31, 31), filled(255, 66), filled(255, 66), "S,I,31,31,31,", __LINE__);
     for (m = 1; m <= 31; m += 2) {
         windows_begin(m, 32 - m, __LINE__);
         windows_begin(m, m, __LINE__);
     }
-    for (limit = 0; limit <= 30; limit++)
+    for (limit = 0; limit <= 31; limit++)
         sheet_begins(cheapest(limit), any_scalar(1 + next_number() % 66), any_scalar(1 + next_number() % 66), "S,", __LINE__);
     for (n = 1; n <= 66; n++)
         sheet_begins(plan_j, any_scalar(n), any_scalar(67 - n), "S,J,1,1,2,", __LINE__);
@@ -483,7 +487,7 @@ static void sheets(void)
     SHEET_REFUSED(plan_i(2, 1), filled(1, 67), byte(2), 0, 1);
     SHEET_REFUSED(cheapest(0), filled(1, 0), byte(2), SHEETS_BYTES, 1);
     SHEET_REFUSED(cheapest(0), byte(7), filled(1, 67), SHEETS_BYTES, 1);
-    SHEET_REFUSED(cheapest(31), filled(1, 67), byte(2), 0, 1);
+    SHEET_REFUSED(cheapest(32), filled(1, 67), byte(2), 0, 1);
 
     /* 2. is each window odd, 1 to 31? */
     SHEET_REFUSED(plan_i(0, 1), byte(7), byte(2), SHEETS_BYTES, 2);
@@ -495,12 +499,12 @@ static void sheets(void)
     SHEET_REFUSED(plan_i(65537, 4294967295u), byte(7), byte(2), SHEETS_BYTES, 2);
     SHEET_REFUSED(plan_i(1, 2), byte(7), byte(2), 0, 2);
 
-    /* 4. is the limit at most 30? */
-    SHEET_REFUSED(cheapest(31), byte(7), byte(2), SHEETS_BYTES, 4);
+    /* 4. is the limit at most 31? */
+    SHEET_REFUSED(cheapest(32), byte(7), byte(2), SHEETS_BYTES, 4);
     SHEET_REFUSED(cheapest(256), byte(7), byte(2), SHEETS_BYTES, 4);
     SHEET_REFUSED(cheapest(65536), byte(7), byte(2), SHEETS_BYTES, 4);
     SHEET_REFUSED(cheapest(4294967295u), byte(7), byte(2), SHEETS_BYTES, 4);
-    SHEET_REFUSED(cheapest(31), byte(7), byte(2), SHEETS_BYTES - 1, 4);
+    SHEET_REFUSED(cheapest(32), byte(7), byte(2), SHEETS_BYTES - 1, 4);
 
     /* 3. has the sheet buffer at least 16,384 bytes? */
     SHEET_REFUSED(plan_j, byte(7), byte(2), SHEETS_BYTES - 1, 3);
@@ -508,12 +512,12 @@ static void sheets(void)
     SHEET_REFUSED(plan_i(1, 1), byte(7), byte(2), SHEETS_BYTES - 1, 3);
     SHEET_REFUSED(plan_i(1, 1), byte(7), byte(2), 0, 3);
     SHEET_REFUSED(cheapest(0), byte(7), byte(2), SHEETS_BYTES - 1, 3);
-    SHEET_REFUSED(cheapest(30), byte(7), byte(2), 0, 3);
+    SHEET_REFUSED(cheapest(31), byte(7), byte(2), 0, 3);
 
     /* no buffer at all */
     CHECK(sheets_plan_j(NULL, 0, NULL, 0, NULL, 0) == (uint64_t)1 << 32);
     CHECK(sheets_plan_i(NULL, 0, NULL, 0, 0, 0, NULL, 0) == (uint64_t)1 << 32);
-    CHECK(sheets_cheapest(NULL, 0, NULL, 0, 31, NULL, 0) == (uint64_t)1 << 32);
+    CHECK(sheets_cheapest(NULL, 0, NULL, 0, 32, NULL, 0) == (uint64_t)1 << 32);
     CHECK(sheets_plan_j((const uint8_t *)"\7", 1, (const uint8_t *)"\2", 1, NULL, 0) == (uint64_t)3 << 32);
     CHECK(sheets_cheapest((const uint8_t *)"\7", 1, (const uint8_t *)"\2", 1, 0, NULL, 0) == (uint64_t)3 << 32);
 }
@@ -602,9 +606,11 @@ static void readings(void)
 
     /* 7. are the windows, the slots and the T lines the plan's? */
     READ("S,I,2,1,0,2,3,7,2\nE\n", 7, 1);
-    READ("S,I,33,1,16,2,3,7,2\nE\n", 7, 1);
+    READ("S,I,33,1,17,2,3,7,2\nE\n", 7, 1);
     READ("S,J,1,3,2,2,0,0,0\nT,1,1\nT,1,-1\nE\n", 7, 1);
     READ("S,I,1,1,1,2,3,7,2\nL,1,0\nE\n", 7, 1);
+    READ("S,I,3,1,1,1,1,3,0\nT,2,0\nT,3,0\nL,3,0\nE\n", 7, 1);
+    READ("S,I,3,1,2,1,1,3,0\nT,2,0\nT,3,0\nL,3,0\nE\n", 0, 0);
     READ("S,I,1,1,0,2,3,7,2\nT,2,0\nL,1,0\nE\n", 7, 2);
     READ("S,J,1,1,2,1,0,0,0\nT,1,1\nE\n", 7, 3);
     READ("S,J,1,1,2,2,0,0,0\nT,1,1\nT,1,1\nE\n", 7, 3);

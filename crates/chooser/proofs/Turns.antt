@@ -14,6 +14,7 @@ use Rattle.forms.specs.Row.{row}
 use Rattle.sheet.specs.declared.Plan.{Plan}
 use Rattle.sheet.specs.declared.Plan.the-variants.{J, I}
 use Rattle.sheet.specs.Digits.{weight}
+use Rattle.sheet.specs.Plan.Slots.{window-slots}
 use Rattle.sheet.specs.Plan.{slots, isWithin, tableAdditions}
 use Rattle.sheet.specs.Sound.{Window}
 use Rattle.written.specs.Promise.{written-cost}
@@ -27,7 +28,6 @@ use Rattle.chooser.specs.Cheapest.Lists.{within-in}
 use Rattle.chooser.specs.Lexicographic.{better, least}
 use Rattle.chooser.specs.Lexicographic.Order.{least-agrees}
 use Rattle.chooser.specs.Body.Weights.{rowWeight, rowWeights, jointWeight}
-use Rattle.chooser.proofs.Limit.{windows-slots}
 use Rattle.chooser.proofs.Numbers.{plans-length}
 use Rattle.chooser.proofs.Windows.{weights-at}
 
@@ -54,16 +54,16 @@ module _ (f : Plan → List ℕ) (limit : ℕ) where
 -- ── the keys by weights ─────────────────────────────────────────────────────────────────────
 
 module _ (limit k l : ℕ) where
-  window-weight : (n m : ℕ) → Window m → m ≤ 2 * limit + 1 → getD (rowWeights limit n) ((m - 1) / 2) 0 ≡ Rows.weight (row m (pos n))
+  window-weight : (n m : ℕ) → Window m → slots (I m 1) ≤ limit → getD (rowWeights limit n) ((m - 1) / 2) 0 ≡ Rows.weight (row m (pos n))
   window-weight n m w h =
       let e : 2 * ((m - 1) / 2) + 1 ≡ m = omega (arith, w .odd) in
-      weights-at limit n ((m - 1) / 2) (omega (arith, w .within)) ∙ ap (rowWeight limit n) e ∙ rw (le-leb m (2 * limit + 1) h)
+      weights-at limit n ((m - 1) / 2) (omega (arith, w .within)) ∙ ap (rowWeight limit n) e ∙ rw (le-leb (slots (I m 1)) limit h)
 
   plan-weighed : {p : Plan} → Valid p → slots p ≤ limit → planWeight p (rowWeights limit k) (rowWeights limit l) (jointWeight limit k l) ≡ weight p (digits p k l)
   unfolding digits
   plan-weighed forJ h = rw (le-leb (slots J) limit h)
   plan-weighed (forI {m1} {m2} v w) h =
-      let s = windows-slots m1 m2 (v .odd) (w .odd) in
+      let s = window-slots m1 m2 (omega (arith, v .odd)) (omega (arith, w .odd)) in
       omega (arith, window-weight k m1 v (omega arith), window-weight l m2 w (omega arith), paired-weight (row m1 (pos k)) (row m2 (pos l)))
 
   module _ (hk : k < 2 ^ 528) (hl : l < 2 ^ 528) where

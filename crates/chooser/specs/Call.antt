@@ -20,7 +20,7 @@ use Rattle.writer.specs.declared.answer.Sheet.the-variants.{BadScalar, BadWindo
 use Rattle.writer.specs.Call.{roomy, wrote, left}
 use Rattle.chooser.specs.Cheapest.{cheapestPlan, First, cheapest}
 
--- the questions: 1 of both scalars; 4. is the limit at most 30? 3
+-- the questions: 1 of both scalars; 4. is the limit at most 31? 3
 abbrev pub cheapestQuestion : Limits → List ℕ → List ℕ → ℕ → ℕ → ℕ
 cheapestQuestion limits k l limit room = missed ((1, sized limits k) ∷ (1, sized limits l) ∷ (4, isLimit limit) ∷ (3, roomy limits room) ∷ [])
 

@@ -38,19 +38,21 @@ Says (heads k l limit header) = getD (cut lineFeed (cheapest k l limit)) 0 [] �
 
 abbrev pub samples : List Sample
 samples =
-    -- fewest additions: a slot saves one of three
-    heads 0x2d 0 1 "S,I,3,1,1,2,5,2d,0"
-    ∷ heads 0 0x2d 1 "S,I,1,3,1,2,5,0,2d"
-    -- then fewest slots: as many additions have windows 3, 1; J; J again, with the smaller m1
-    ∷ heads 3 0 1 "S,I,1,1,0,1,2,3,0"
+    -- fewest additions: two slots save one of three, and one slot none
+    heads 0x2d 0 2 "S,I,3,1,2,2,5,2d,0"
+    ∷ heads 0 0x2d 2 "S,I,1,3,2,2,5,0,2d"
+    ∷ heads 0x2d 0 1 "S,I,1,1,0,3,6,2d,0"
+    -- windows 3, 3 are within three slots, the working double's place being one for both; with two slots J is left
+    ∷ heads 0x5a 0x2d 3 "S,I,3,3,3,5,7,5a,2d"
+    ∷ heads 0x5a 0x2d 2 "S,J,1,1,2,6,6,5a,2d"
+    -- then fewest slots: as many additions have windows 3, 1; J; windows 3, 3
+    ∷ heads 3 0 2 "S,I,1,1,0,1,2,3,0"
     ∷ heads 3 3 2 "S,I,1,1,0,3,2,3,3"
-    ∷ heads 0x2d 0xb 2 "S,I,3,1,1,5,5,2d,b"
-    -- then J before I: windows 3, 3 have as many additions and slots
-    ∷ heads 0x2d 0x2d 2 "S,J,1,1,2,5,6,2d,2d"
+    ∷ heads 0x2d 0x2d 3 "S,J,1,1,2,5,6,2d,2d"
+    -- then J before I: windows 3, 1 have as many additions and slots
+    ∷ heads 0x2d 0xb 2 "S,J,1,1,2,5,6,2d,b"
     -- then smaller m1: so have windows 3, 1
-    ∷ heads 0x2d 0x2d 1 "S,I,1,3,1,6,7,2d,2d"
-    -- the same two scalars with no slot
-    ∷ heads 0x2d 0x2d 0 "S,I,1,1,0,7,6,2d,2d"
+    ∷ heads 0x2d 0x66 2 "S,I,1,3,2,6,7,2d,66"
     ∷ []
 
 -- the test of a sample

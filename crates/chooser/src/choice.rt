@@ -123,12 +123,16 @@ fn plan_at(n: u32) -> Plan
     Plan::I(2 * (at / 16) + 1, 2 * (at % 16) + 1)
 }
 
-// How many plans, from the first on, are enough to try: one within the limit has no window above 2 limit + 1.
+// How many plans, from the first on, are enough to try: one within the limit has no window above 2 limit − 1, and below two slots
+// none but 1.
 fn plans_to_try(limit: u32) -> u32
     ensures { λ r. ⌜ Enough limit r ⌝ }
 {
-    if limit < 15 {
-        return 16 * limit + 17;
+    if limit < 2 {
+        return 17;
+    }
+    if limit < 16 {
+        return 16 * limit + 1;
     }
     257
 }

@@ -81,7 +81,7 @@ fn row_weight_within(bytes: &[u8], m: u32, limit: u32) -> u32
     requires { ⌜ (1 ≤ length (now bytes)) × ((length (now bytes) ≤ 66) × ((m % 2 ≡ 1) × (m ≤ 31))) ⌝ }
     ensures { λ r. ⌜ r ≡ rowWeight limit (scalar (now (bytes .entry))) m ⌝ }
 {
-    if m / 2 <= limit {
+    if Plan::I(m, 1).is_within(limit) {
         return row_weight(bytes, m);
     }
     0

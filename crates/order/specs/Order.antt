@@ -60,7 +60,7 @@ readOrder limits s = readFields limits (cut comma (lineOf s))
 abbrev pub refusal : ℕ → List ℕ
 refusal n = ascii "N," ++ decimal n ++ (lineFeed ∷ [])
 
--- the sheet, or 4 where the limit is beyond 30
+-- the sheet, or 4 where the limit is beyond 31
 abbrev pub served : ℕ → ℕ → ℕ → List ℕ
 served k l slots = cond (isLimit slots) (cheapest k l slots) (refusal 4)
 
@@ -77,7 +77,7 @@ printed limits s = answered (readOrder limits s)
 pub record Printed (s text : List ℕ) : Type 0 where
   -- it is N,6 exactly where they are no order
   pub misspelled : (text ≡ refusal 6) ↔ (readOrder card s ≡ none)
-  -- it is N,4 exactly where they are one whose limit is beyond 30
+  -- it is N,4 exactly where they are one whose limit is beyond 31
   pub beyond : (text ≡ refusal 4) ↔ ((o : Order) × (readOrder card s ≡ some o) × (isLimit (o .slots) ≡ false))
   -- and otherwise it is the sheet that demand 3 asks for
   pub sheet : (o : Order) → readOrder card s ≡ some o → isLimit (o .slots) ≡ true → (a : ℕ) × Cheapest text (o .k) (o .l) (o .slots) a

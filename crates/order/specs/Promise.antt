@@ -18,6 +18,6 @@ order-fits s buffer = go (roomy card (length buffer))
     go true = omega (arith, length-append (printed card s) (drop (length (printed card s)) buffer))
     go false = omega arith
 
--- what is printed is N,6 exactly for what is no order, N,4 exactly for a limit beyond 30, and otherwise the sheet that demand 3 asks for
+-- what is printed is N,6 exactly for what is no order, N,4 exactly for a limit beyond 31, and otherwise the sheet that demand 3 asks for
 pub order-prints : (s : List ℕ) → Printed s (printed card s)
 order-prints = Demand.printed-kept

@@ -77,6 +77,9 @@ samples =
     ∷ joint 1 2 (+ 1 ∷ + 0 ∷ []) (+ 0 ∷ + 1 ∷ [])
     ∷ heads (ascii "3,0,1\n") (ascii "S,I,1,1,0,1,2,3,0")
     ∷ prints (ascii "7,2,0\n") (ascii "S,I,1,1,0,2,3,7,2\nL,1,0\nD\nD\nA,0,1\nD\nA,-1,0\nE\n")
+    -- the highest limit, and one more
+    ∷ heads (ascii "7,2,31\n") (ascii "S,I,1,1,0,2,3,7,2")
+    ∷ prints (ascii "7,2,32\n") (ascii "N,4\n")
     -- a row: 1 and 2 missed, 2 and 3, 3 alone, none
     ∷ answers (rowQuestion card (bytes 67) 4 0) 1
     ∷ answers (rowQuestion card (bytes 66) 4 0) 2
@@ -95,10 +98,10 @@ samples =
     ∷ answers (iQuestion card (bytes 1) (bytes 1) 31 31 16383) 3
     ∷ answers (iQuestion card (bytes 1) (bytes 1) 31 31 16384) 0
     -- the cheapest: 1 and 4 missed, 4 and 3, 3 alone, none
-    ∷ answers (cheapestQuestion card (bytes 67) (bytes 1) 31 0) 1
-    ∷ answers (cheapestQuestion card (bytes 1) (bytes 1) 31 0) 4
-    ∷ answers (cheapestQuestion card (bytes 1) (bytes 1) 30 16383) 3
-    ∷ answers (cheapestQuestion card (bytes 1) (bytes 1) 30 16384) 0
+    ∷ answers (cheapestQuestion card (bytes 67) (bytes 1) 32 0) 1
+    ∷ answers (cheapestQuestion card (bytes 1) (bytes 1) 32 0) 4
+    ∷ answers (cheapestQuestion card (bytes 1) (bytes 1) 31 16383) 3
+    ∷ answers (cheapestQuestion card (bytes 1) (bytes 1) 31 16384) 0
     ∷ []
 
 abbrev sameRow : (ds es : List ℤ) → Test (ds ≡ es)

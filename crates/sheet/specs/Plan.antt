@@ -1,10 +1,12 @@
 -- Plans: the slots that each needs, the points of its T lines, and what these cost.
 pub mod Cost
-use mathlib.Core.Bool.{Bool, cond}
+pub mod Slots
+use mathlib.Core.Bool.{Bool, _||_, cond}
 use mathlib.Core.List.{List, [], _∷_, _++_, map}
 use Prim.Native.Nat.{ℕ, zero, suc, _+_, _-_, _/_}
 use lib.Dec.{leb}
 use lib.IntN.{ℤ, pos, negsuc}
+use Rattle.digits.specs.Row.{widest}
 use Rattle.digits.specs.Two.{Column}
 use Rattle.sheet.specs.declared.Plan.{Plan}
 use Rattle.sheet.specs.declared.Plan.the-variants.{J, I}
@@ -18,16 +20,20 @@ Point = Column
 abbrev pub point : ℤ → ℤ → Point
 point a b = record { p = a; q = b }
 
+-- the place of the working double, 2P and later 2Q: one for both, if m1 or m2 is 3 or more
+abbrev pub working : ℕ → ℕ → ℕ
+working m1 m2 = cond (leb 3 m1 || leb 3 m2) 1 0
+
 -- the slots that a plan needs
 abbrev pub slots : Plan → ℕ
 slots J = 2
-slots (I m1 m2) = (m1 + m2 - 2) / 2
+slots (I m1 m2) = (m1 + m2 - 2) / 2 + working m1 m2
 
--- the highest limit of slots, 30: what the widest windows need
+-- the highest limit of slots, 31: what the widest windows need
 abbrev pub mostSlots : ℕ
-mostSlots = slots (I 31 31)
+mostSlots = slots (I widest widest)
 
--- a limit of slots is at most 30
+-- a limit of slots is at most 31
 abbrev pub isLimit : ℕ → Bool
 isLimit limit = leb limit mostSlots
 

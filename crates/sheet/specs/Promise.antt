@@ -1,22 +1,25 @@
--- What is shown of sheets, in one place: when a sheet is accepted, what its steps are, and that what is spelled is read. The definitions
--- are those of Plan, Line, Spelling, Questions, Answer, Sound and Digits; the proofs are in the files that the answers name.
+-- What is shown of sheets, in one place: when a sheet is accepted, what its steps are, that what is spelled is read, and what its plan
+-- takes. The definitions are those of Plan, Line, Spelling, Questions, Answer, Sound and Digits; the proofs are in the files that the
+-- answers name.
 use mathlib.Core.Path.{_≡_}
 use mathlib.Core.Logic.{_≢_, _↔_}
 use mathlib.Core.List.{List, map}
-use Prim.Native.Nat.{ℕ, _≤_}
+use Prim.Native.Nat.{ℕ, _+_, _%_, _≤_, min}
 use Rattle.digits.specs.Column.{row}
 use Rattle.digits.specs.Limits.{Limits}
-use Rattle.digits.specs.Row.{value}
+use Rattle.digits.specs.Row.{value, widest}
 use Rattle.digits.specs.Two.{Two, two, digit}
 use Rattle.sheet.specs.declared.Plan.{Plan}
+use Rattle.sheet.specs.declared.Plan.the-variants.{I}
 use Rattle.sheet.specs.Answer.{Accepted, heading, sheetSlots, sheetAdditions}
 use Rattle.sheet.specs.Answer.Exactly as Exactly
 use Rattle.sheet.specs.Digits.{columns, Reads}
 use Rattle.sheet.specs.Digits.Accepted as Steps
 use Rattle.sheet.specs.Every.{Every}
 use Rattle.sheet.specs.Line.{Line, plan, table, misspelled}
-use Rattle.sheet.specs.Plan.{tables, tableAdditions, tableDoublings}
+use Rattle.sheet.specs.Plan.{slots, mostSlots, tables, tableAdditions, tableDoublings, largest}
 use Rattle.sheet.specs.Plan.Cost as Cost
+use Rattle.sheet.specs.Plan.Slots as Slots
 use Rattle.sheet.specs.Questions.{additions, doublings, result}
 use Rattle.sheet.specs.Sound.{Sound}
 use Rattle.sheet.specs.Spelling.{spell, lines}
@@ -60,3 +63,12 @@ tables-additions = Cost.tables-additions
 
 pub tables-doublings : (p : Plan) → doublings (map table (tables p)) ≡ tableDoublings p
 tables-doublings = Cost.tables-doublings
+
+-- the slots of a plan with odd windows: a place for each point that its T lines add up, and one for those that they double
+pub slots-places : (p : Plan) → largest p .p % 2 ≡ 1 → largest p .q % 2 ≡ 1
+    → slots p ≡ additions (map table (tables p)) + min 1 (doublings (map table (tables p)))
+slots-places = Slots.slots-places
+
+-- no plan I needs more slots than the highest limit
+pub slots-most : (m1 m2 : ℕ) → m1 ≤ widest → m2 ≤ widest → slots (I m1 m2) ≤ mostSlots
+slots-most = Slots.slots-most

@@ -65,7 +65,7 @@ cases =
     ∷ ("S,I,1,1,0,0,0,0,0\nE", refused 6 2)
     -- no E behind S, behind T lines, behind L, behind the steps: one past the last line
     ∷ ("S,I,1,1,0,0,0,0,0\n", refused 6 2)
-    ∷ ("S,I,3,1,1,1,1,0,0\nT,2,0\nT,3,0\n", refused 6 4)
+    ∷ ("S,I,3,1,2,1,1,0,0\nT,2,0\nT,3,0\n", refused 6 4)
     ∷ ("S,I,1,1,0,0,0,1,0\nL,1,0\n", refused 6 3)
     ∷ ("S,I,1,1,0,1,1,3,0\nL,1,0\nD\nA,1,0\n", refused 6 5)
     -- no step, with k = l = 0 and with k = 1
@@ -89,21 +89,26 @@ cases =
     ∷ ("S,I,1,1,0,0,0,0,0\nS,I,1,1,0,0,0,0,0\nE\n", refused 6 2)
     ∷ ("S,I,1,1,0,1,0,1,0\nA,1,0\nE\n", refused 6 2)
     ∷ ("S,I,1,1,0,0,0,1,0\nL,1,0\nL,1,0\nE\n", refused 6 3)
-    ∷ ("S,I,3,1,1,1,1,1,0\nT,2,0\nL,1,0\nT,3,0\nE\n", refused 6 4)
-    -- an even window, one beyond 31, a window of J other than 1, slots that are not the plan's
+    ∷ ("S,I,3,1,2,1,1,1,0\nT,2,0\nL,1,0\nT,3,0\nE\n", refused 6 4)
+    -- an even window, one beyond 31, a window of J other than 1
     ∷ ("S,I,2,1,0,0,0,1,0\nL,1,0\nE\n", refused 7 1)
-    ∷ ("S,I,33,1,16,0,0,1,0\nL,1,0\nE\n", refused 7 1)
+    ∷ ("S,I,33,1,17,0,0,1,0\nL,1,0\nE\n", refused 7 1)
     ∷ ("S,J,1,3,2,2,0,0,0\nT,1,1\nT,1,-1\nE\n", refused 7 1)
-    ∷ ("S,I,3,1,2,1,1,1,0\nT,2,0\nT,3,0\nL,1,0\nE\n", refused 7 1)
-    -- T lines whole, out of order, one missing, one extra
-    ∷ ("S,I,3,1,1,1,1,3,0\nT,2,0\nT,3,0\nL,3,0\nE\n", accepted)
-    ∷ ("S,I,3,1,1,1,1,3,0\nT,3,0\nT,2,0\nL,3,0\nE\n", refused 7 2)
-    ∷ ("S,I,3,1,1,0,1,3,0\nT,2,0\nL,3,0\nE\n", refused 7 3)
-    ∷ ("S,I,3,1,1,1,2,3,0\nT,2,0\nT,3,0\nT,0,2\nL,3,0\nE\n", refused 7 4)
+    -- slots without the working double's place, and with one for each window; one for windows 1, 1
+    ∷ ("S,I,3,1,1,1,1,1,0\nT,2,0\nT,3,0\nL,1,0\nE\n", refused 7 1)
+    ∷ ("S,I,5,3,3,3,2,5,0\nT,2,0\nT,3,0\nT,5,0\nT,0,2\nT,0,3\nL,5,0\nE\n", refused 7 1)
+    ∷ ("S,I,5,3,5,3,2,5,0\nT,2,0\nT,3,0\nT,5,0\nT,0,2\nT,0,3\nL,5,0\nE\n", refused 7 1)
+    ∷ ("S,I,1,1,1,0,0,1,0\nL,1,0\nE\n", refused 7 1)
+    -- T lines whole, out of order, one missing, one extra; of Q alone
+    ∷ ("S,I,3,1,2,1,1,3,0\nT,2,0\nT,3,0\nL,3,0\nE\n", accepted)
+    ∷ ("S,I,3,1,2,1,1,3,0\nT,3,0\nT,2,0\nL,3,0\nE\n", refused 7 2)
+    ∷ ("S,I,3,1,2,0,1,3,0\nT,2,0\nL,3,0\nE\n", refused 7 3)
+    ∷ ("S,I,3,1,2,1,2,3,0\nT,2,0\nT,3,0\nT,0,2\nL,3,0\nE\n", refused 7 4)
+    ∷ ("S,I,1,3,2,1,1,0,3\nT,0,2\nT,0,3\nL,0,3\nE\n", accepted)
     -- T lines of two windows: P's and then Q's, Q's first, one of each exchanged
-    ∷ ("S,I,5,3,3,3,2,5,0\nT,2,0\nT,3,0\nT,5,0\nT,0,2\nT,0,3\nL,5,0\nE\n", accepted)
-    ∷ ("S,I,5,3,3,3,2,5,0\nT,0,2\nT,0,3\nT,2,0\nT,3,0\nT,5,0\nL,5,0\nE\n", refused 7 2)
-    ∷ ("S,I,5,3,3,3,2,5,0\nT,2,0\nT,3,0\nT,0,2\nT,5,0\nT,0,3\nL,5,0\nE\n", refused 7 4)
+    ∷ ("S,I,5,3,4,3,2,5,0\nT,2,0\nT,3,0\nT,5,0\nT,0,2\nT,0,3\nL,5,0\nE\n", accepted)
+    ∷ ("S,I,5,3,4,3,2,5,0\nT,0,2\nT,0,3\nT,2,0\nT,3,0\nT,5,0\nL,5,0\nE\n", refused 7 2)
+    ∷ ("S,I,5,3,4,3,2,5,0\nT,2,0\nT,3,0\nT,0,2\nT,5,0\nT,0,3\nL,5,0\nE\n", refused 7 4)
     -- T lines of J: whole, out of order, none at all
     ∷ ("S,J,1,1,2,2,0,1,1\nT,1,1\nT,1,-1\nL,1,1\nE\n", accepted)
     ∷ ("S,J,1,1,2,2,0,1,1\nT,1,-1\nT,1,1\nL,1,1\nE\n", refused 7 2)
@@ -137,14 +142,14 @@ cases =
     ∷ (times 16385 "\n", refused 5 0)
     -- 6 and 7 missed, 7 and 8, 8 and 9, 9 and 10, 10 and 11: the lower number answers, though its line comes no sooner
     ∷ ("S,I,1,1,1,0,0,1,0\nL,1,0\nE\nE\n", refused 6 4)
-    ∷ ("S,I,3,1,1,0,1,2,0\nT,2,0\nL,2,0\nE\n", refused 7 3)
+    ∷ ("S,I,3,1,2,0,1,2,0\nT,2,0\nL,2,0\nE\n", refused 7 3)
     ∷ ("S,I,1,1,0,2,529," ++ times 131 "f" ++ "e,0\nL,1,0\nD\nA,-1,0\n" ++ times 528 "D\n" ++ "A,-2,0\nE\n", refused 8 533)
     ∷ ("S,I,1,1,0,2,528," ++ times 132 "f" ++ ",0\nL,1,0\nD\nA,-1,0\n" ++ times 528 "D\n" ++ "A,-1,0\nE\n", refused 9 532)
     ∷ ("S,I,1,1,0,1,0,1,1\nL,1,0\nE\n", refused 10 1)
     -- two faults under one question: the first line
     ∷ ("S,I,1,1,0,0,0,0,0\nD\nX\nE\n", refused 6 2)
-    ∷ ("S,I,5,1,3,2,1,1,0\nT,2,0\nT,5,0\nT,3,0\nL,1,0\nE\n", refused 7 1)
-    ∷ ("S,I,5,1,2,2,1,1,0\nT,2,0\nT,5,0\nT,3,0\nL,1,0\nE\n", refused 7 3)
+    ∷ ("S,I,5,1,2,2,1,1,0\nT,2,0\nT,5,0\nT,3,0\nL,1,0\nE\n", refused 7 1)
+    ∷ ("S,I,5,1,3,2,1,1,0\nT,2,0\nT,5,0\nT,3,0\nL,1,0\nE\n", refused 7 3)
     ∷ ("S,I,1,1,0,1,1,6,0\nL,2,0\nD\nA,2,0\nE\n", refused 8 2)
     ∷ []
 

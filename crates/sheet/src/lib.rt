@@ -3,7 +3,7 @@ pub mod fields;
 pub mod figures;
 
 ghost use mathlib.Core.Path.{_≡_};
-ghost use Rattle.sheet.specs.Plan.{slots, tableAdditions, tableDoublings, stored, doubled, largest, isLimit, isWithin};
+ghost use Rattle.sheet.specs.Plan.{slots, working, tableAdditions, tableDoublings, stored, doubled, largest, isLimit, isWithin};
 
 // Plan J uses joint columns; plan I interleaves two rows with windows m1 for P and m2 for Q.
 pub enum Plan {
@@ -19,7 +19,7 @@ pub struct Largest {
 
 impl Plan {
     // The highest limit of slots.
-    pub const MOST_SLOTS: u32 = 30;
+    pub const MOST_SLOTS: u32 = 31;
 
     // The slots that the plan needs.
     pub fn slots(self) -> u32
@@ -32,7 +32,8 @@ impl Plan {
                 if both < 2 {
                     return 0;
                 }
-                ((both - 2) / 2) as u32
+                let multiples = ((both - 2) / 2) as u32;
+                multiples + Plan::working(m1, m2)
             }
         }
     }
@@ -79,6 +80,17 @@ impl Plan {
             Plan::J => Largest { p: 1, q: 1 },
             Plan::I(m1, m2) => Largest { p: m1, q: m2 },
         }
+    }
+
+    // The place of the working double: one, for 2P and later for 2Q.
+    fn working(m1: u32, m2: u32) -> u32
+        ensures { λ r. ⌜ r ≡ working m1 m2 ⌝ }
+    {
+        let doubles = Plan::I(m1, m2).table_doublings();
+        if doubles < 2 {
+            return doubles;
+        }
+        1
     }
 
     // How many odd multiples a window has beyond the first.

@@ -6,7 +6,7 @@ pub enum Sheet {
     BadWindow,
     // Question 3: the sheet buffer has at least 16,384 bytes.
     NoRoom,
-    // Question 4, which only the call for the cheapest sheet asks: a limit of slots is at most 30.
+    // Question 4, which only the call for the cheapest sheet asks: a limit of slots is at most 31.
     BadLimit,
     // The length of the sheet, and its additions.
     Written(usize, u32),

@@ -2,7 +2,7 @@
 //! back.
 
 use crate::cheapest::Weights;
-use crate::plan::Plan;
+use crate::plan::{Plan, MOST_SLOTS};
 use crate::reader::{self, Refusal, LONGEST_SHEET};
 use crate::scalars::{self, MOST_BYTES};
 use crate::sheet::Sheet;
@@ -127,7 +127,7 @@ impl Call {
             ],
             Call::Cheapest { k, l, limit, room } => vec![
                 (has_length(k) && has_length(l), 1),
-                (*limit <= 30, 4),
+                (*limit <= MOST_SLOTS, 4),
                 (*room >= LONGEST_SHEET, 3),
             ],
             Call::Read { .. } => Vec::new(),
@@ -255,7 +255,7 @@ mod tests {
             Call::Joint { k: k.clone(), l: l.clone(), k_places: 17, l_places: 0 },
             Call::PlanJ { k: k.clone(), l: l.clone(), room: 16_384 },
             Call::PlanI { k: k.clone(), l: l.clone(), m1: 5, m2: u32::MAX, room: 16_383 },
-            Call::Cheapest { k, l, limit: 31, room: 0 },
+            Call::Cheapest { k, l, limit: 32, room: 0 },
             Call::Read { sheet: b"E\n".to_vec() },
         ];
         for call in calls {

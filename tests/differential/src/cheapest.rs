@@ -52,12 +52,13 @@ impl Weights {
 /// The additions of a sheet of the plan with this many steps: the table's, and every step but the
 /// load.
 pub fn additions(plan: Plan, weight: usize) -> usize {
-    plan.slots() + weight.saturating_sub(1)
+    plan.table_additions() + weight.saturating_sub(1)
 }
 
 #[cfg(test)]
 mod tests {
     use super::*;
+    use crate::plan::MOST_SLOTS;
     use crate::random::Random;
     use crate::scalars;
 
@@ -79,7 +80,7 @@ mod tests {
         for k in 0..40 {
             for l in 0..40 {
                 let weights = Weights::of(Big::from(k), Big::from(l));
-                for limit in 0..=30 {
+                for limit in 0..=MOST_SLOTS as usize {
                     let best = weights.cheapest(limit);
                     let mut within_limit = Plan::all().filter(|plan| plan.slots() <= limit);
                     assert!(best.slots() <= limit);

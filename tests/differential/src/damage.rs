@@ -228,7 +228,7 @@ mod tests {
     use crate::reader;
     use std::collections::BTreeSet;
 
-    const GOOD: &[u8] = b"S,I,3,1,1,3,4,7,2\nT,2,0\nT,3,0\nL,1,0\nD\nD\nA,0,1\nD\nA,-1,0\nE\n";
+    const GOOD: &[u8] = b"S,I,3,1,2,3,4,7,2\nT,2,0\nT,3,0\nL,1,0\nD\nD\nA,0,1\nD\nA,-1,0\nE\n";
 
     #[test]
     fn recounting_mends_the_counts() {

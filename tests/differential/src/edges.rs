@@ -107,18 +107,33 @@ fn plan_refusals() -> Vec<(Call, Answer)> {
 
 fn cheapest_sheets() -> Vec<(Call, Answer)> {
     let cheapest = |limit, room| Call::Cheapest { k: vec![7], l: vec![2], limit, room };
+    let forty_five = |limit| Call::Cheapest { k: vec![45], l: vec![0], limit, room: 16_384 };
     vec![
-        (cheapest(30, 16_384), Answer::Sheet(SEVEN_AND_TWO.as_bytes().to_vec())),
-        (cheapest(31, 16_384), refused(4)),
-        (cheapest(30, 16_383), refused(3)),
-        (cheapest(31, 16_383), refused(4)),
+        (cheapest(30, 16_384), sheet(SEVEN_AND_TWO)),
+        (cheapest(31, 16_384), sheet(SEVEN_AND_TWO)),
+        (cheapest(32, 16_384), refused(4)),
+        (cheapest(31, 16_383), refused(3)),
+        (cheapest(32, 16_383), refused(4)),
+        // Windows 3, 1 need two slots: one for 3P, one for 2P.
+        (forty_five(1), sheet(FORTY_FIVE_BY_WINDOW_1)),
+        (forty_five(2), sheet(FORTY_FIVE_BY_WINDOW_3)),
     ]
 }
+
+const FORTY_FIVE_BY_WINDOW_1: &str =
+    "S,I,1,1,0,3,6,2d,0\nL,1,0\nD\nD\nA,-1,0\nD\nD\nA,-1,0\nD\nD\nA,1,0\nE\n";
+
+const FORTY_FIVE_BY_WINDOW_3: &str =
+    "S,I,3,1,2,2,5,2d,0\nT,2,0\nT,3,0\nL,3,0\nD\nD\nD\nD\nA,-3,0\nE\n";
 
 fn reads() -> Vec<(Call, Answer)> {
     vec![
         (Call::Read { sheet: vec![b'E'; 16_384] }, Answer::refused(6, 1)),
         (Call::Read { sheet: vec![b'E'; 16_385] }, Answer::refused(5, 0)),
+        (read(FORTY_FIVE_BY_WINDOW_1), Answer::Accepted),
+        (read(FORTY_FIVE_BY_WINDOW_3), Answer::Accepted),
+        // An older header, without the place of the working double.
+        (read(&FORTY_FIVE_BY_WINDOW_3.replace("S,I,3,1,2", "S,I,3,1,1")), Answer::refused(7, 1)),
     ]
 }
 
@@ -127,6 +142,14 @@ fn sparse(places: usize, digits: &[(usize, i8)]) -> Vec<i8> {
     let mut row = vec![0; places];
     digits.iter().for_each(|&(place, digit)| row[place] = digit);
     row
+}
+
+fn sheet(text: &str) -> Answer {
+    Answer::Sheet(text.as_bytes().to_vec())
+}
+
+fn read(sheet: &str) -> Call {
+    Call::Read { sheet: sheet.as_bytes().to_vec() }
 }
 
 fn refused(number: u32) -> Answer {

@@ -3,6 +3,9 @@
 use crate::joint::Pair;
 use crate::row;
 
+/// The highest limit of slots: what the widest windows need.
+pub const MOST_SLOTS: u32 = 31;
+
 #[derive(Clone, Copy, PartialEq, Eq, Debug)]
 pub enum Plan {
     /// Plan J.
@@ -35,10 +38,23 @@ impl Plan {
         }
     }
 
+    /// The places that a card needs: for the stored points, and one for 2P and later 2Q where a
+    /// window is 3 or more.
     pub fn slots(self) -> usize {
         match self {
             Plan::Joint => 2,
-            Plan::Interleaved { m1, m2 } => (usize::from(m1) + usize::from(m2) - 2) / 2,
+            Plan::Interleaved { m1, m2 } => {
+                let working = usize::from(m1 >= 3 || m2 >= 3);
+                (usize::from(m1) + usize::from(m2) - 2) / 2 + working
+            }
+        }
+    }
+
+    /// The additions that fill the table.
+    pub fn table_additions(self) -> usize {
+        match self {
+            Plan::Joint => 2,
+            Plan::Interleaved { m1, m2 } => usize::from(m1 / 2) + usize::from(m2 / 2),
         }
     }
 
@@ -84,16 +100,20 @@ mod tests {
     use super::*;
 
     #[test]
-    fn there_are_257_plans_of_at_most_30_slots() {
+    fn there_are_257_plans_and_the_widest_windows_need_the_highest_limit() {
         assert_eq!(Plan::all().count(), 257);
-        assert_eq!(Plan::all().map(Plan::slots).max(), Some(30));
+        assert_eq!(Plan::all().map(Plan::slots).max(), Some(MOST_SLOTS as usize));
+        let widest = Plan::Interleaved { m1: 31, m2: 31 };
+        assert_eq!(widest.slots(), MOST_SLOTS as usize);
     }
 
     #[test]
-    fn every_slot_is_filled_by_one_addition() {
+    fn every_addition_fills_a_slot_and_all_doublings_share_one() {
         for plan in Plan::all() {
-            let additions = plan.table().into_iter().filter(|&line| !is_doubling(line));
-            assert_eq!(additions.count(), plan.slots());
+            let (doublings, additions): (Vec<_>, Vec<_>) =
+                plan.table().into_iter().partition(|&line| is_doubling(line));
+            assert_eq!(additions.len(), plan.table_additions());
+            assert_eq!(additions.len() + doublings.len().min(1), plan.slots());
         }
     }
 

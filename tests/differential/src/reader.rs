@@ -328,17 +328,19 @@ mod tests {
     #[test]
     fn plans() {
         check(&GOOD.replace("S,I,1,1,0", "S,I,2,1,0"), 7, 1);
-        check(&GOOD.replace("S,I,1,1,0", "S,I,1,33,16"), 7, 1);
+        check(&GOOD.replace("S,I,1,1,0", "S,I,1,33,17"), 7, 1);
         check(&GOOD.replace("S,I,1,1,0", "S,I,9999,1,0"), 7, 1);
         check(&GOOD.replace("S,I,1,1,0", "S,I,1,1,1"), 7, 1);
         check(&GOOD.replace("S,I,1,1,0", "S,J,1,3,2"), 7, 1);
         check(&GOOD.replace("S,I,1,1,0", "S,J,1,1,2"), 7, 2);
-        check(&GOOD.replace("S,I,1,1,0", "S,I,3,1,1"), 7, 2);
+        check(&GOOD.replace("S,I,1,1,0", "S,I,3,1,1"), 7, 1);
+        check(&GOOD.replace("S,I,1,1,0", "S,I,3,1,2"), 7, 2);
+        check(&GOOD.replace("S,I,1,1,0", "S,I,3,3,4"), 7, 1);
         check(&GOOD.replace("L,1", "T,2,0\nL,1"), 7, 2);
-        check("S,I,3,3,2,2,2,0,0\nT,2,0\nT,3,0\nT,0,2\nE\n", 7, 5);
-        check("S,I,3,3,2,2,2,0,0\nT,2,0\nT,3,0\nT,0,2\nT,0,3\nE\n", 0, 0);
-        check("S,I,3,3,2,2,2,0,0\nT,2,0\nT,3,0\nT,0,2\nT,0,3\nT,0,5\nE\n", 7, 6);
-        check("S,I,3,3,2,2,2,0,0\nT,2,0\nT,0,2\nT,0,3\nE\n", 7, 3);
+        check("S,I,3,3,3,2,2,0,0\nT,2,0\nT,3,0\nT,0,2\nE\n", 7, 5);
+        check("S,I,3,3,3,2,2,0,0\nT,2,0\nT,3,0\nT,0,2\nT,0,3\nE\n", 0, 0);
+        check("S,I,3,3,3,2,2,0,0\nT,2,0\nT,3,0\nT,0,2\nT,0,3\nT,0,5\nE\n", 7, 6);
+        check("S,I,3,3,3,2,2,0,0\nT,2,0\nT,0,2\nT,0,3\nE\n", 7, 3);
         check("S,J,1,1,2,2,0,0,0\nT,1,1\nE\n", 7, 3);
     }
 

@@ -78,9 +78,9 @@ fn bounds() -> Vec<(Call, Says)> {
         (row(vec![5], 0), refused(2)),
         (row(vec![5], 4), refused(2)),
         (row(vec![5], 33), refused(2)),
-        (cheapest(5, 6, 30, 16_384), Says::Passes),
-        (cheapest(5, 6, 31, 16_384), refused(4)),
-        (cheapest(5, 6, 30, 16_383), refused(3)),
+        (cheapest(5, 6, 31, 16_384), Says::Passes),
+        (cheapest(5, 6, 32, 16_384), refused(4)),
+        (cheapest(5, 6, 31, 16_383), refused(3)),
         (Call::Read { sheet: vec![b'D'; 16_385] }, refused(5)),
     ]
 }

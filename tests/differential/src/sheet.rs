@@ -100,7 +100,7 @@ mod tests {
         assert_eq!(joint.to_string(), "S,J,1,1,2,2,0,0,0\nT,1,1\nT,1,-1\nE\n");
         let plan = Plan::Interleaved { m1: 3, m2: 1 };
         let interleaved = Sheet::of_plan(plan, Big::ZERO, Big::ZERO);
-        assert_eq!(interleaved.to_string(), "S,I,3,1,1,1,1,0,0\nT,2,0\nT,3,0\nE\n");
+        assert_eq!(interleaved.to_string(), "S,I,3,1,2,1,1,0,0\nT,2,0\nT,3,0\nE\n");
     }
 
     #[test]

@@ -1,15 +1,14 @@
 -- The weights that decide the cost of each plan within a limit: of each scalar's row for the windows, and of the joint form.
 use mathlib.Core.Bool.{cond}
 use mathlib.Core.List.{List, [], _∷_, map}
-use Prim.Native.Nat.{ℕ, zero, suc, _+_, _*_}
-use lib.Dec.{leb}
+use Prim.Native.Nat.{ℕ, zero, suc, _+_}
 use lib.IntN.{pos}
 use Rattle.digits.specs.Column as Columns
 use Rattle.digits.specs.Row as Rows
 use Rattle.digits.specs.Two.{two}
 use Rattle.forms.specs.Joint.{joint}
 use Rattle.forms.specs.Row.{row}
-use Rattle.sheet.specs.declared.Plan.the-variants.{J}
+use Rattle.sheet.specs.declared.Plan.the-variants.{J, I}
 use Rattle.sheet.specs.Plan.{isWithin}
 use Rattle.chooser.specs.Cheapest.{windows}
 
@@ -29,9 +28,9 @@ nonzeroPairs [] t = nonzero t
 nonzeroPairs (a ∷ s) [] = marked a + nonzeroPairs s []
 nonzeroPairs (a ∷ s) (b ∷ t) = marked (a + b) + nonzeroPairs s t
 
--- the weight of a scalar's row for a window that a plan within the limit may have, one up to 2 limit + 1; 0 for another
+-- the weight of a scalar's row for a window that a plan within the limit can have, at least with 1 for the other; 0 for another
 abbrev pub rowWeight : ℕ → ℕ → ℕ → ℕ
-rowWeight limit k m = cond (leb m (2 * limit + 1)) (Rows.weight (row m (pos k))) 0
+rowWeight limit k m = cond (isWithin (I m 1) limit) (Rows.weight (row m (pos k))) 0
 
 -- these weights, window by window
 unfoldable pub rowWeights : ℕ → ℕ → List ℕ

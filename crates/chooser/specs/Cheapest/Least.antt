@@ -1,5 +1,5 @@
 -- The cheapest plan: it is one of those within the limit, nothing of them comes before it, and it is the only such one.
-use mathlib.Core.Path.{_≡_, refl, ap, ap₂}
+use mathlib.Core.Path.{_≡_, refl, sym, ap, ap₂, _∙_}
 use mathlib.Core.Bool.{Bool, true, false, _&&_}
 use mathlib.Core.List.{List}
 use Prim.Native.Nat.{ℕ, _-_, _≤_}
@@ -14,6 +14,7 @@ use Rattle.forms.specs.Row.{row}
 use Rattle.sheet.specs.declared.Plan.{Plan}
 use Rattle.sheet.specs.declared.Plan.the-variants.{J, I}
 use Rattle.sheet.specs.Digits.{Fits, weight, rowP, rowQ}
+use Rattle.sheet.specs.Plan.Slots.{second-told}
 use Rattle.sheet.specs.Plan.{slots}
 use Rattle.written.specs.Valid.{Valid, forJ, forI, window-positive}
 use Rattle.written.specs.Written.Columns.{paired-weight}
@@ -86,8 +87,8 @@ same-plan forJ forJ e = refl
 same-plan forJ (forI v w) e = absurd (omega (arith, e .rank-same))
 same-plan (forI v w) forJ e = absurd (omega (arith, e .rank-same))
 same-plan (forI {m1} {m2} v w) (forI {m1 = n1} {m2 = n2} x y) e =
-    let second : m2 ≡ n2 = omega (arith, e .slots-same, e .first-same, v .odd, w .odd, x .odd, y .odd) in
-    ap₂ (λ (a b : ℕ). I a b) (e .first-same) second
+    let slots-told : slots (I m1 m2) ≡ slots (I m1 n2) = e .slots-same ∙ ap (λ (a : ℕ). slots (I a n2)) (sym (e .first-same)) in
+    ap₂ (λ (a b : ℕ). I a b) (e .first-same) (second-told m1 m2 n2 (omega (arith, v .odd)) (w .odd) (y .odd) slots-told)
 
 pub key-only : (k l : ℕ) (p q : Plan) → Valid p → Valid q → key k l p ≡ key k l q → p ≡ q
 key-only k l p q v w e = same-plan v w (parts k l p q e)

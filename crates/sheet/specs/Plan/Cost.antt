@@ -1,9 +1,10 @@
 -- The table additions and doublings of a plan are those of its T lines. Assumes nothing.
 use mathlib.Core.Path.{_≡_, refl, ap}
-use mathlib.Core.Bool.{true, false}
+use mathlib.Core.Bool.{Bool, true, false, cond}
 use mathlib.Core.List.{List, [], _∷_, _++_, map}
 use Prim.Native.Nat.{ℕ, zero, suc, _+_, _≤_}
 use native.Mathlib.Omega.{arith}
+use lib.Dec.{leb}
 use lib.IntN.{pos}
 use borrow.Author.Tests.{ne-eqb, le-leb, lt-leb}
 use Rattle.sheet.specs.declared.Plan.{Plan}
@@ -80,6 +81,14 @@ odd-P d h = rw (ne-eqb d 2 (omega arith), ne-eqb d 0 (omega arith))
 odd-Q : (d : ℕ) → 3 ≤ d → isDouble (forQ d) ≡ false
 unfolding forQ
 odd-Q d h = rw (ne-eqb d 2 (omega arith))
+
+-- twice a point is made once at most
+pub doubled-once : (m : ℕ) → doubled m ≤ 1
+doubled-once m = go (leb 3 m)
+  where
+    go : (b : Bool) → cond b 1 0 ≤ 1
+    go true = omega arith
+    go false = omega arith
 
 -- the additions of the plan's T lines
 pub tables-additions : (p : Plan) → additions (map table (tables p)) ≡ tableAdditions p

@@ -1,12 +1,10 @@
 -- Every written sheet is accepted for its scalars, it is no longer than a sheet may be, and it costs the table and one addition
 -- for each digit but the first: from the laws of its digits (Columns), its steps (Stepping) and its lengths (Lengths).
 use mathlib.Core.Path.{_≡_, refl, sym, ap, ap₂, subst, _∙_}
-use mathlib.Core.Bool.{Bool, true, false, cond}
 use mathlib.Core.List.{List, [], _∷_, _++_, map}
 use Prim.Native.Nat.{ℕ, _+_, _*_, _-_, _^_, _≤_, _<_}
 use native.Mathlib.Nat.{le-refl}
 use native.Mathlib.Omega.{arith}
-use lib.Dec.{leb}
 use lib.IntN.{pos}
 use lib.ListN.{length}
 use Rattle.digits.specs.Scalar.Length.{length-least}
@@ -20,14 +18,15 @@ use Rattle.sheet.specs.Answer.{Accepted, sheetSlots, sheetAdditions}
 use Rattle.sheet.specs.Digits.{columns, rowP, rowQ, weight, Reads}
 use Rattle.sheet.specs.Answer.Exactly.{accepted-exactly}
 use Rattle.sheet.specs.Line.{Header, plan, Line, table, end}
-use Rattle.sheet.specs.Plan.{point, slots, stored, tables, tableAdditions, doubled, tableDoublings}
+use Rattle.sheet.specs.Plan.Cost.{doubled-once, doublings-append, tables-doublings}
+use Rattle.sheet.specs.Plan.Slots.{slots-most}
+use Rattle.sheet.specs.Plan.{point, slots, tables, tableAdditions, tableDoublings}
 use Rattle.sheet.specs.Questions.{additions, doublings, result}
 use Rattle.sheet.specs.Digits.Accepted.{columns-value, sheet-columns, sheet-additions, accepted-rows}
 use Rattle.sheet.specs.Sound.{Steps, stepLines, sheetLines, Windows, Allowed, Sound}
 use Rattle.sheet.specs.Sound as Sounds
 use Rattle.sheet.specs.Spelling.Spelled.{ShortHeader, spelled-read}
 use Rattle.sheet.specs.Spelling.{lines}
-use Rattle.sheet.specs.Plan.Cost.{doublings-append, tables-doublings}
 use Rattle.written.specs.Written.{digits, stepsOf, kindOf, first, second, heading, linesWith, writtenLines, writtenAdditions, written}
 use Rattle.written.specs.Written.Columns.{digits-fit, digits-value, digits-top, digits-length}
 use Rattle.written.specs.Valid.{Valid, forJ, forI}
@@ -64,20 +63,13 @@ pub few-additions : {p : Plan} → Valid p → tableAdditions p ≤ 30
 few-additions forJ = omega arith
 few-additions (forI v w) = omega (arith, v .within, w .within)
 
-doubled-once : (m : ℕ) → doubled m ≤ 1
-doubled-once m = go (leb 3 m)
-  where
-    go : (b : Bool) → cond b 1 0 ≤ 1
-    go true = omega arith
-    go false = omega arith
-
 pub few-doublings : (p : Plan) → tableDoublings p ≤ 2
 few-doublings J = omega arith
 few-doublings (I m1 m2) = omega (arith, doubled-once m1, doubled-once m2)
 
 small-plan : {p : Plan} → Valid p → (first p < 10000) × (second p < 10000) × (slots p < 10000)
 small-plan forJ = (omega arith, omega arith, omega arith)
-small-plan (forI v w) = (omega (arith, v .within), omega (arith, w .within), omega (arith, v .within, w .within))
+small-plan (forI {m1} {m2} v w) = (omega (arith, v .within), omega (arith, w .within), omega (arith, slots-most m1 m2 (v .within) (w .within)))
 
 module _ (p : Plan) (k l : ℕ) where
   -- the additions and doublings of the steps

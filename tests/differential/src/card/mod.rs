@@ -7,9 +7,11 @@ pub mod modular;
 use curve::{Curve, Point};
 use std::collections::HashMap;
 
-/// What a card came to, and by how many group operations.
+/// What a card came to, in how many places beside those of P and Q, and by how many group
+/// operations.
 pub struct Run {
     pub result: Point,
+    pub slots: usize,
     pub additions: usize,
     pub doublings: usize,
 }
@@ -18,8 +20,8 @@ struct Card<'a> {
     curve: &'a Curve,
     /// The points at hand, aP + bQ under (a, b).
     stored: HashMap<(i32, i32), Point>,
-    /// 2P while multiples of P are stored, then 2Q.
-    double: Point,
+    /// 2P while multiples of P are stored, then 2Q, in one place; none where neither is made.
+    double: Option<Point>,
     run: Run,
 }
 
@@ -27,7 +29,7 @@ struct Card<'a> {
 /// out. The header is not looked at.
 pub fn run(curve: &Curve, p: Point, q: Point, sheet: &str) -> Option<Run> {
     let stored = HashMap::from([((1, 0), p), ((0, 1), q)]);
-    let run = Run { result: None, additions: 0, doublings: 0 };
+    let run = Run { result: None, slots: 0, additions: 0, doublings: 0 };
     let mut card = Card { curve, stored, double: None, run };
     for line in sheet.lines().skip(1) {
         let words: Vec<&str> = line.split(',').collect();
@@ -39,7 +41,7 @@ pub fn run(curve: &Curve, p: Point, q: Point, sheet: &str) -> Option<Run> {
                 let point = card.point(a.parse().ok()?, b.parse().ok()?)?;
                 card.run.result = card.sum(card.run.result, point);
             }
-            ["E"] => return Some(card.run),
+            ["E"] => return Some(card.ended()),
             _ => return None,
         }
     }
@@ -50,16 +52,22 @@ impl Card<'_> {
     fn store(&mut self, a: i32, b: i32) -> Option<()> {
         let point = match (a, b) {
             (2, 0) | (0, 2) => {
-                self.double = self.doubled(self.point(a / 2, b / 2)?);
+                self.double = Some(self.doubled(self.point(a / 2, b / 2)?));
                 return Some(());
             }
             (1, _) => self.sum(self.point(1, 0)?, self.point(0, b)?),
-            (_, 0) => self.sum(self.point(a - 2, 0)?, self.double),
-            (0, _) => self.sum(self.point(0, b - 2)?, self.double),
+            (_, 0) => self.sum(self.point(a - 2, 0)?, self.double?),
+            (0, _) => self.sum(self.point(0, b - 2)?, self.double?),
             _ => return None,
         };
         self.stored.insert((a, b), point);
         Some(())
+    }
+
+    /// The run, with the places that it took.
+    fn ended(self) -> Run {
+        let slots = self.stored.len() - 2 + usize::from(self.double.is_some());
+        Run { slots, ..self.run }
     }
 
     /// The point aP + bQ, if it or its negative is at hand.
@@ -94,7 +102,16 @@ mod tests {
         let eight = curve.doubled(q);
         let fifteen = curve.sum(curve.doubled(eight), curve.negated(p));
         assert_eq!(run.result, fifteen);
-        assert_eq!((run.additions, run.doublings), (2, 3));
+        assert_eq!((run.slots, run.additions, run.doublings), (0, 2, 3));
+    }
+
+    #[test]
+    fn the_places_that_a_run_took() {
+        let curve = &licences::all().curves[0];
+        let took = |sheet| run(curve, curve.g, curve.doubled(curve.g), sheet).map(|run| run.slots);
+        assert_eq!(took("S\nT,1,1\nT,1,-1\nE\n"), Some(2));
+        assert_eq!(took("S\nT,2,0\nT,3,0\nE\n"), Some(2));
+        assert_eq!(took("S\nT,2,0\nT,3,0\nT,0,2\nT,0,3\nT,0,5\nE\n"), Some(4));
     }
 
     #[test]
@@ -103,6 +120,7 @@ mod tests {
         let runs = |sheet| run(curve, curve.g, curve.g, sheet).is_some();
         assert!(runs("S\nT,2,0\nT,3,0\nL,-3,0\nE\n"));
         assert!(!runs("S\nL,3,0\nE\n"));
+        assert!(!runs("S\nT,3,0\nE\n"));
         assert!(!runs("S\nT,2,0\nT,3,0\nL,2,0\nE\n"));
         assert!(!runs("S\nL,1,1\nE\n"));
         assert!(!runs("S\nL,1,0\n"));

@@ -4,11 +4,12 @@ use super::{refused_scalars, ROOM, ROOMS};
 use crate::judge::Judge;
 use reference::calls::{Answer, Call};
 use reference::cheapest::Weights;
+use reference::plan::MOST_SLOTS;
 use reference::random::Random;
 use reference::scalars;
 
 const RANDOM_PAIRS: usize = 1_500;
-const REFUSED_LIMITS: [u32; 9] = [31, 32, 255, 256, 286, 65_536, 1 << 31, (1 << 31) + 5, u32::MAX];
+const REFUSED_LIMITS: [u32; 9] = [32, 33, 255, 256, 287, 65_536, 1 << 31, (1 << 31) + 5, u32::MAX];
 
 pub fn run(judge: &mut Judge, random: &mut Random) {
     for _ in 0..RANDOM_PAIRS {
@@ -21,7 +22,7 @@ pub fn run(judge: &mut Judge, random: &mut Random) {
 
 fn every_limit(judge: &mut Judge, k: &[u8], l: &[u8]) {
     let weights = Weights::of(scalars::value(k), scalars::value(l));
-    for limit in 0..=30 {
+    for limit in 0..=MOST_SLOTS {
         let sheet = weights.cheapest_sheet(limit as usize).to_bytes();
         let call = Call::Cheapest { k: k.to_vec(), l: l.to_vec(), limit, room: ROOM };
         judge.compare_with(&call, &Answer::Sheet(sheet));
@@ -31,7 +32,7 @@ fn every_limit(judge: &mut Judge, k: &[u8], l: &[u8]) {
 /// Every order of the questions.
 fn refusals(judge: &mut Judge, random: &mut Random) {
     for room in ROOMS {
-        for limit in REFUSED_LIMITS.into_iter().chain([0, 15, 30]) {
+        for limit in REFUSED_LIMITS.into_iter().chain([0, 15, 30, MOST_SLOTS]) {
             let (k, l) = scalars::random_pair(random);
             judge.compare(&Call::Cheapest { k, l, limit, room });
             for bad in refused_scalars(random).into_iter().take(3) {

@@ -13,7 +13,7 @@ use reference::random::Random;
 use reference::scalars;
 use reference::sheet::{columns, Sheet};
 
-const LIMITS: [u32; 8] = [0, 1, 2, 3, 5, 8, 15, 30];
+const LIMITS: [u32; 8] = [0, 1, 2, 3, 5, 8, 15, 31];
 const WINDOWS: [(u32, u32); 5] = [(1, 1), (3, 1), (5, 7), (15, 9), (31, 31)];
 
 /// A scalar with a 32-bit word of ones to which a carry comes.
@@ -75,15 +75,15 @@ impl Trial<'_> {
         self.judge.hold(format_args!("the licence made for a carry that stops"), false, survives);
     }
 
-    /// Orders the sheet and runs it: it finds the licence valid or not, by as many group operations
-    /// as its header counts.
+    /// Orders the sheet and runs it: it finds the licence valid or not, in as many places and by as
+    /// many group operations as its header says.
     fn check(&mut self, licence: &Licence, call: &Call, valid: bool) {
         let sheet = self.order(call);
         let run = self.run(licence, &sheet);
         let finds = run.as_ref().map(|run| licence.is_valid(run.result));
         self.judge.hold(format_args!("is it valid, by {call}"), Some(valid), finds);
-        let made = run.map(|run| (run.additions, run.doublings));
-        self.judge.hold(format_args!("operations, by {call}"), counted(&sheet), made);
+        let made = run.map(|run| [run.slots, run.additions, run.doublings]);
+        self.judge.hold(format_args!("slots and operations, by {call}"), counted(&sheet), made);
     }
 
     fn order(&mut self, call: &Call) -> String {
@@ -153,10 +153,11 @@ fn cheapest(licence: &Licence, limit: u32) -> Call {
     Call::Cheapest { k, l, limit, room: ROOM }
 }
 
-/// The additions and the doublings of a sheet's header.
-fn counted(sheet: &str) -> Option<(usize, usize)> {
-    let mut fields = sheet.lines().next()?.split(',').skip(5);
-    Some((fields.next()?.parse().ok()?, fields.next()?.parse().ok()?))
+/// The slots, the additions and the doublings of a sheet's header.
+fn counted(sheet: &str) -> Option<[usize; 3]> {
+    let mut fields = sheet.lines().next()?.split(',').skip(4);
+    let mut number = || fields.next()?.parse().ok();
+    Some([number()?, number()?, number()?])
 }
 
 /// Is this line a load or an addition?

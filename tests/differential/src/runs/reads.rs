@@ -1,9 +1,9 @@
 //! The reader: foreign sheets, damaged sheets, and bytes that are no sheets.
 
 use crate::judge::Judge;
-use reference::calls::Call;
+use reference::calls::{Answer, Call};
 use reference::damage::{damage, recount};
-use reference::plan::Plan;
+use reference::plan::{Plan, MOST_SLOTS};
 use reference::random::Random;
 use reference::reader::LONGEST_SHEET;
 use reference::samples::SEVEN_AND_TWO;
@@ -35,6 +35,7 @@ impl Met {
 
 pub fn run(judge: &mut Judge, random: &mut Random) -> Met {
     let mut met = Met::default();
+    every_number_of_slots(judge, random);
     foreign_sheets(judge, random, &mut met);
     stretched_sheets(judge, random, &mut met);
     false_sheets(judge, random, &mut met);
@@ -43,6 +44,29 @@ pub fn run(judge: &mut Judge, random: &mut Random) -> Met {
     long_sheets(judge, random, &mut met);
     no_sheets(judge, random, &mut met);
     met
+}
+
+/// A sheet of every plan, with every number of slots in its header: accepted with the plan's own.
+fn every_number_of_slots(judge: &mut Judge, random: &mut Random) {
+    for plan in Plan::all() {
+        let (k, l) = scalars::random_pair(random);
+        let sheet = Sheet::of_plan(plan, scalars::value(&k), scalars::value(&l)).to_string();
+        for slots in 0..=2 * MOST_SLOTS as usize {
+            let own = slots == plan.slots();
+            let answer = if own { Answer::Accepted } else { Answer::refused(7, 1) };
+            let stated = with_slots(&sheet, slots).into_bytes();
+            judge.compare_with(&Call::Read { sheet: stated }, &answer);
+        }
+    }
+}
+
+/// The sheet with other slots in its header.
+fn with_slots(sheet: &str, slots: usize) -> String {
+    let (header, rest) = sheet.split_once('\n').expect("a header");
+    let mut fields: Vec<&str> = header.split(',').collect();
+    let slots = slots.to_string();
+    fields[4] = &slots;
+    format!("{}\n{rest}", fields.join(","))
 }
 
 fn random_plan(random: &mut Random) -> Plan {

@@ -6,7 +6,7 @@ use crate::outcome::{Claim, Outcome};
 use reference::calls::Call;
 use reference::cheapest::additions;
 use reference::least::Least;
-use reference::plan::Plan;
+use reference::plan::{Plan, MOST_SLOTS};
 use reference::row;
 use reference::scalars::small;
 
@@ -63,7 +63,7 @@ fn compare_cheapest(judge: &mut Judge, rows: &[Least], columns: &Least) {
     for k in 0..BOUND {
         for l in 0..BOUND {
             let plans = plan_additions(rows, columns, k, l);
-            for limit in 0..=30 {
+            for limit in 0..=MOST_SLOTS {
                 let call = Call::Cheapest { k: small(k), l: small(l), limit, room: ROOM };
                 let allowed = plans.iter().filter(|(plan, _)| plan.slots() <= limit as usize);
                 let fewest = allowed.map(|&(_, additions)| additions).min();

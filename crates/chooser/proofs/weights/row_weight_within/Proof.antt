@@ -1,23 +1,31 @@
--- `row_weight_within` meets its contract, by the test: a window up to 2 limit + 1 or one above.
-use Prim.Native.Nat.{_+_, _*_}
-use native.Mathlib.Omega.{arith}
+-- `row_weight_within` meets its contract, by the test: a window that a plan within the limit may have, or another.
+use mathlib.Core.Path.{_≡_, sym, _∙_}
+use mathlib.Core.Bool.{true, false}
 use borrow.Author.Needs.{needs}
-use borrow.Author.Tests.{le-leb, lt-leb}
+use Rattle.sheet.specs.declared.Plan.the-variants.{I}
+use Rattle.sheet.specs.Plan.{isWithin}
 use Rattle.chooser.proofs.weights.row_weight_within.Statement.{statement}
 use Rattle.chooser.proofs.weights.row_weight_within.Tie as tie
+
+is-within-requires : tie.Need-is-within-requires
+is-within-requires c κs = search needs
 
 row-weight-requires : tie.Need-row-weight-requires
 row-weight-requires c κs = search needs
 
 returns : tie.Need-returns
 returns c =
-    let a = c .before .before .before .args in
-    rw (le-leb (a .m) (2 * a .limit + 1) (omega arith)) (c .row-weight .ensures)
+    let w = c .before .before in
+    let a = w .before .before .args in
+    let t : isWithin (I (a .m) 1) (a .limit) ≡ true = sym (w .is-within .ensures) ∙ c .before .if1 .taken in
+    rw t (c .row-weight .ensures)
 
 returns-2 : tie.Need-returns-2
 returns-2 c =
-    let a = c .before .before .args in
-    rw (lt-leb (a .m) (2 * a .limit + 1) (omega arith))
+    let w = c .before in
+    let a = w .before .before .args in
+    let t : isWithin (I (a .m) 1) (a .limit) ≡ false = sym (w .is-within .ensures) ∙ c .if1 .left in
+    rw t
 
 pub row-weight-within-spec : {M : Type 1} → statement M
-row-weight-within-spec = tie.close (tie.spec row-weight-requires returns returns-2)
+row-weight-within-spec = tie.close (tie.spec is-within-requires row-weight-requires returns returns-2)

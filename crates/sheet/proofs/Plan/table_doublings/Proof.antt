@@ -1,9 +1,7 @@
 -- `Plan::table_doublings` meets its contract.
 use mathlib.Core.Path.{ap}
-use mathlib.Core.Bool.{Bool, true, false, cond}
-use Prim.Native.Nat.{_≤_}
-use lib.Dec.{leb}
 use native.Mathlib.Omega.{arith}
+use Rattle.sheet.specs.Plan.Cost.{doubled-once}
 use Rattle.sheet.specs.Plan.{tableDoublings}
 use borrow.Author.Needs.{needs}
 use Rattle.sheet.proofs.Plan.table_doublings.Statement.{statement}
@@ -21,12 +19,10 @@ doubled-requires c κs = search needs
 doubled-requires-2 : tie.Need-doubled-requires-2
 doubled-requires-2 c κs = search needs
 
-one : (b : Bool) → cond b 1 0 ≤ 1
-one true = omega arith
-one false = omega arith
-
 add-result : tie.Need-add-result
-add-result c = omega (arith, one (leb 3 (c .before .before .before .self .given .0 .0)), one (leb 3 (c .before .before .before .self .given .0 .1 .0)))
+add-result c =
+    let m = c .before .before .before .self .given .0 in
+    omega (arith, doubled-once (m .0), doubled-once (m .1 .0))
 
 returns : tie.Need-returns
 returns c = search needs
