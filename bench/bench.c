@@ -16,14 +16,18 @@ enum { PAIRS = INPUTS, MOST_BYTES = 66, UNTOUCHED = 0xaa };
 struct calls {
     uint64_t (*row)(const uint8_t *, size_t, uint32_t, uint8_t *, size_t);
     uint64_t (*joint)(const uint8_t *, size_t, const uint8_t *, size_t, uint8_t *, size_t, uint8_t *, size_t);
+    uint64_t (*joint_codes)(const uint8_t *, size_t, const uint8_t *, size_t, uint8_t *, size_t, uint8_t *, size_t, uint8_t *, size_t,
+                            uint8_t *, size_t);
     uint64_t (*plan_j)(const uint8_t *, size_t, const uint8_t *, size_t, uint8_t *, size_t);
     uint64_t (*plan_i)(const uint8_t *, size_t, const uint8_t *, size_t, uint32_t, uint32_t, uint8_t *, size_t);
     uint64_t (*cheapest)(const uint8_t *, size_t, const uint8_t *, size_t, uint32_t, uint8_t *, size_t);
     uint64_t (*read)(const uint8_t *, size_t);
 };
 
-static const struct calls library = {sheets_row, sheets_joint, sheets_plan_j, sheets_plan_i, sheets_cheapest, sheets_read};
-static const struct calls plain_c = {peer_row, peer_joint, peer_plan_j, peer_plan_i, peer_cheapest, peer_read};
+static const struct calls library = {
+    sheets_row, sheets_joint, sheets_joint_codes, sheets_plan_j, sheets_plan_i, sheets_cheapest, sheets_read,
+};
+static const struct calls plain_c = {peer_row, peer_joint, peer_joint_codes, peer_plan_j, peer_plan_i, peer_cheapest, peer_read};
 
 /* ---- inputs and outputs ---- */
 
@@ -35,9 +39,10 @@ struct inputs {
     size_t start[PAIRS + 1];
 };
 
-/* What a call may write: two rows of digits, or a sheet. */
+/* What a call may write: two rows of digits and their codes, or a sheet. */
 struct output {
     uint8_t k_digits[SHEETS_PLACES(MOST_BYTES)], l_digits[SHEETS_PLACES(MOST_BYTES)], sheet[SHEETS_BYTES];
+    uint8_t k_codes[SHEETS_PLACES(MOST_BYTES)], l_codes[SHEETS_PLACES(MOST_BYTES)];
 };
 
 static void fill_scalars(struct inputs *in, size_t bytes)
@@ -75,6 +80,15 @@ static uint64_t joint(const struct calls *c, const struct work *w, const struct 
     return c->joint(in->k[i], in->bytes, in->l[i], in->bytes, out->k_digits, places, out->l_digits, places);
 }
 
+static uint64_t joint_codes(const struct calls *c, const struct work *w, const struct inputs *in, size_t i, struct output *out)
+{
+    size_t places = SHEETS_PLACES(in->bytes);
+
+    (void)w;
+    return c->joint_codes(in->k[i], in->bytes, in->l[i], in->bytes, out->k_digits, places, out->l_digits, places, out->k_codes, places,
+                          out->l_codes, places);
+}
+
 static uint64_t plan_j(const struct calls *c, const struct work *w, const struct inputs *in, size_t i, struct output *out)
 {
     (void)w;
@@ -98,13 +112,14 @@ static uint64_t read_sheet(const struct calls *c, const struct work *w, const st
     return c->read(in->sheets + in->start[i], in->start[i + 1] - in->start[i]);
 }
 
-enum { WIDEST = 5, LARGEST = 8 };
+enum { WIDEST = 6, LARGEST = 9 };
 
 static const struct work works[] = {
     {"row, m = 1", row, 1, 0, NULL},
     {"row, m = 5", row, 5, 0, NULL},
     {"row, m = 31", row, 31, 0, NULL},
     {"joint", joint, 0, 0, NULL},
+    {"joint, codes", joint_codes, 0, 0, NULL},
     {"plan J", plan_j, 0, 0, NULL},
     [WIDEST] = {"plan I 31, 31", plan_i, 31, 31, NULL},
     {"cheapest, limit 0", cheapest, 0, 0, NULL},

@@ -128,13 +128,24 @@ static struct recoded recode_row(const struct bits *b, unsigned m, uint8_t *digi
     return row;
 }
 
-/* The digit of a remainder x beside y: of an odd x the residue by 4, turned where x is 3 or 5 by 8 and y is 2 by 4. */
+/* In bit 0, for an odd x, whether its sign turns: it is 3 or 5 by 8, and y is 2 by 4. */
+static unsigned turned(unsigned x, unsigned y)
+{
+    return (x >> 1 ^ x >> 2) & y >> 1 & ~y;
+}
+
+/* The digit of a remainder x beside y: of an odd x the residue by 4, or that with its sign turned. */
 static int joint_digit(unsigned x, unsigned y)
 {
-    unsigned turned = (x >> 1 ^ x >> 2) & y >> 1 & ~y;
-    unsigned negative = (x >> 1 ^ turned) & 1;
+    unsigned negative = (x >> 1 ^ turned(x, y)) & 1;
 
     return (int)(x & 1) * (1 - 2 * (int)negative);
+}
+
+/* Its code: 0 for an even x, 1 for the residue, 2 for the turned sign. */
+static uint8_t joint_code(unsigned x, unsigned y)
+{
+    return (uint8_t)((x & 1) << (turned(x, y) & 1));
 }
 
 /* The carry to the next place, from the bit, the carry and the digit of this one. */
@@ -143,8 +154,10 @@ static unsigned carry_of(uint64_t bits, unsigned carry, int digit)
     return (unsigned)((int)(bits & 1) + (int)carry - digit) / 2;
 }
 
-/* Writes joint columns, two rows, into places that hold 0. */
-static struct recoded recode_joint(const struct bits *k, const struct bits *l, uint8_t *k_digits, uint8_t *l_digits)
+/* Writes joint columns, two rows, into places that hold 0; and their codes, unless k_codes is NULL, which each caller settles. */
+static inline __attribute__((always_inline)) struct recoded recode_columns(const struct bits *k, const struct bits *l,
+                                                                           uint8_t *k_digits, uint8_t *l_digits,
+                                                                           uint8_t *k_codes, uint8_t *l_codes)
 {
     struct recoded joint = {0, 0};
     unsigned length = k->length < l->length ? l->length : k->length, at = 0, k_carry = 0, l_carry = 0;
@@ -168,12 +181,21 @@ static struct recoded recode_joint(const struct bits *k, const struct bits *l, u
         q = joint_digit(y, x);
         k_digits[at] = (uint8_t)p;
         l_digits[at] = (uint8_t)q;
+        if (k_codes) {
+            k_codes[at] = joint_code(x, y);
+            l_codes[at] = joint_code(y, x);
+        }
         k_carry = carry_of(k_bits >> zeros, k_carry, p);
         l_carry = carry_of(l_bits >> zeros, l_carry, q);
         joint.weight++;
         joint.places = ++at;
     }
     return joint;
+}
+
+static struct recoded recode_joint(const struct bits *k, const struct bits *l, uint8_t *k_digits, uint8_t *l_digits)
+{
+    return recode_columns(k, l, k_digits, l_digits, NULL, NULL);
 }
 
 uint64_t peer_row(const uint8_t *scalar, size_t n, uint32_t m, uint8_t *digits, size_t places)
@@ -205,6 +227,26 @@ uint64_t peer_joint(const uint8_t *k, size_t kn, const uint8_t *l, size_t ln, ui
     memset(k_digits, 0, k_places);
     memset(l_digits, 0, l_places);
     return recode_joint(&kb, &lb, k_digits, l_digits).places;
+}
+
+uint64_t peer_joint_codes(const uint8_t *k, size_t kn, const uint8_t *l, size_t ln, uint8_t *k_digits, size_t k_places,
+                          uint8_t *l_digits, size_t l_places, uint8_t *k_codes, size_t k_room, uint8_t *l_codes, size_t l_room)
+{
+    struct bits kb, lb;
+    size_t least;
+
+    if (!is_scalar(kn) || !is_scalar(ln))
+        return refusal(1, 0);
+    least = 8 * larger(kn, ln) + 1;
+    if (k_places < least || l_places < least || k_room < least || l_room < least)
+        return refusal(3, 0);
+    kb = bits_of(k, kn);
+    lb = bits_of(l, ln);
+    memset(k_digits, 0, k_places);
+    memset(l_digits, 0, l_places);
+    memset(k_codes, 0, k_room);
+    memset(l_codes, 0, l_room);
+    return recode_columns(&kb, &lb, k_digits, l_digits, k_codes, l_codes).places;
 }
 
 /* ---- plans ---- */

@@ -12,7 +12,7 @@
  *
  *    1   has each scalar 1 to 66 bytes?
  *    2   is each window odd, 1 to 31?
- *    3   has each buffer room: a digit buffer 8 places for each byte of the scalar, of the longer one for two, and one more
+ *    3   has each buffer room: a digit or code buffer 8 places for each byte of the scalar, of the longer one for two, and one more
  *        (SHEETS_PLACES); a sheet buffer 16,384 bytes (SHEETS_BYTES)?
  *    4   is the slot limit at most 31?
  *
@@ -32,7 +32,7 @@
 extern "C" {
 #endif
 
-/* The places that a digit buffer needs for a scalar of so many bytes, and the bytes that a sheet buffer needs. */
+/* The places that a digit or code buffer needs for a scalar of so many bytes, and the bytes that a sheet buffer needs. */
 #define SHEETS_PLACES(bytes) (8 * (size_t)(bytes) + 1)
 #define SHEETS_BYTES 16384
 
@@ -48,6 +48,15 @@ uint64_t sheets_row(const uint8_t *scalar, size_t n, uint32_t m, uint8_t *digits
  */
 uint64_t sheets_joint(const uint8_t *k, size_t kn, const uint8_t *l, size_t ln, uint8_t *k_digits, size_t k_places, uint8_t *l_digits,
                       size_t l_places);
+
+/*
+ * The same, and beside each row the rule behind each of its digits, a code to a byte. The remainder at a place is the scalar less its
+ * digits below, divided by 2^place. The code is 0 for an even remainder, whose digit is 0; 1 where the digit is the remainder by four,
+ * taken as 1 or -1; 2 where the sign of that is turned: the remainder is 3 or 5 modulo 8, and the other scalar's is 2 modulo 4. Questions
+ * 1, 3, and then 3 of the code buffers, which need as many places as the digit buffers. The places above the length hold 0 in all four.
+ */
+uint64_t sheets_joint_codes(const uint8_t *k, size_t kn, const uint8_t *l, size_t ln, uint8_t *k_digits, size_t k_places,
+                            uint8_t *l_digits, size_t l_places, uint8_t *k_codes, size_t k_room, uint8_t *l_codes, size_t l_room);
 
 /*
  * The sheet of plan J. Questions 1, 3. The length is the sheet's, in bytes, at most 16,384; the bytes behind it stay as lent. So too

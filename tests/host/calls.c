@@ -119,7 +119,7 @@ static int kept(const struct lent *b, size_t n)
     return 1;
 }
 
-static struct lent first, second;
+static struct lent first, second, third, fourth;
 
 /* ---- digits ---- */
 
@@ -369,6 +369,112 @@ static void joints(void)
         CHECK(reads_back(q, length, l));
         CHECK(zeros_above(p, length, places) && zeros_above(q, length, places));
         CHECK(kept(&first, places) && kept(&second, places));
+        CHECK(only_read(k) & only_read(l));
+    }
+}
+
+/* ---- joint forms with codes ---- */
+
+/* The two rows of a joint form and their codes. */
+struct form {
+    size_t length;
+    int8_t k_digits[8], l_digits[8];
+    uint8_t k_codes[8], l_codes[8];
+};
+
+static void codes_are(struct bytes k, struct bytes l, struct form form, int line)
+{
+    uint8_t *p = lend(&first), *q = lend(&second), *pc = lend(&third), *qc = lend(&fourth);
+    size_t n = form.length, places = SHEETS_PLACES(k.n > l.n ? k.n : l.n);
+    uint64_t answer = sheets_joint_codes(k.at, k.n, l.at, l.n, p, places, q, places + 3, pc, places + 5, qc, places + 7);
+    check(sheets_number(answer) == 0, "the joint form is given", line);
+    check(sheets_length(answer) == n, "its length", line);
+    check(memcmp(p, form.k_digits, n) == 0 && memcmp(q, form.l_digits, n) == 0, "the digits of k and l", line);
+    check(memcmp(pc, form.k_codes, n) == 0, "the codes of k", line);
+    check(memcmp(qc, form.l_codes, n) == 0, "the codes of l", line);
+    check(zeros_above(p, n, places) && zeros_above(q, n, places + 3), "zeros above the digits", line);
+    check(zeros_above(pc, n, places + 5) && zeros_above(qc, n, places + 7), "zeros above the codes", line);
+    check(kept(&first, places) && kept(&second, places + 3), "no other byte beside the digits", line);
+    check(kept(&third, places + 5) && kept(&fourth, places + 7), "no other byte beside the codes", line);
+    check(only_read(k) & only_read(l), "the scalars are only read", line);
+}
+
+static void codes_refused(struct bytes k, struct bytes l, const size_t rooms[4], uint32_t number, int line)
+{
+    uint64_t answer = sheets_joint_codes(k.at, k.n, l.at, l.n, lend(&first), rooms[0], lend(&second), rooms[1], lend(&third),
+                                         rooms[2], lend(&fourth), rooms[3]);
+    check(answer == (uint64_t)number << 32, "the joint form is refused", line);
+    check(kept(&first, 0) && kept(&second, 0) && kept(&third, 0) && kept(&fourth, 0), "the buffers are as lent", line);
+    check(only_read(k) & only_read(l), "the scalars are only read", line);
+}
+
+#define CODES_REFUSED(k, l, a, b, c, d, number) codes_refused((k), (l), (const size_t[]){(a), (b), (c), (d)}, (number), __LINE__)
+
+/*
+ * The code at a place of a row beside the other row. A row that reads back to its scalar tells the remainder by eight at a place by the
+ * digit there and the two above it.
+ */
+static int code_at(const uint8_t *row, const uint8_t *other, size_t i, size_t places)
+{
+    unsigned c = 0, o = 0, weight = 1;
+    size_t j;
+    for (j = i; j < i + 3 && j < places; j++) {
+        c += weight * (unsigned)digit(row, j);
+        o += weight * (unsigned)digit(other, j);
+        weight *= 2;
+    }
+    if (c % 2 == 0)
+        return 0;
+    return (c % 8 == 3 || c % 8 == 5) && o % 4 == 2 ? 2 : 1;
+}
+
+static void codes(void)
+{
+    size_t n, i;
+
+    /* a sign that turns at 5 and at 3 beside 2, in either row; one that does not, at 7 */
+    codes_are(byte(13), byte(10), (struct form){5, {-1, -1, 0, 0, 1}, {0, 1, 0, 1, 0}, {2, 1, 0, 0, 1}, {0, 1, 0, 1, 0}}, __LINE__);
+    codes_are(byte(7), byte(2), (struct form){4, {-1, 0, 0, 1}, {0, 1, 0, 0}, {1, 0, 0, 1}, {0, 1, 0, 0}}, __LINE__);
+    codes_are(byte(3), byte(2), (struct form){2, {1, 1}, {0, 1}, {2, 1}, {0, 1}}, __LINE__);
+    codes_are(byte(2), byte(3), (struct form){2, {0, 1}, {1, 1}, {0, 1}, {2, 1}}, __LINE__);
+    codes_are(byte(0), byte(0), (struct form){0, {0}, {0}, {0}, {0}}, __LINE__);
+    codes_are(byte(3), bytes_of((const uint8_t *)"\0\2", 2), (struct form){2, {1, 1}, {0, 1}, {2, 1}, {0, 1}}, __LINE__);
+
+    /* 1. has each scalar 1 to 66 bytes? */
+    CODES_REFUSED(filled(1, 0), byte(2), 1000, 1000, 1000, 1000, 1);
+    CODES_REFUSED(byte(7), filled(1, 67), 1000, 1000, 1000, 1000, 1);
+    CODES_REFUSED(byte(7), filled(1, 67), 0, 0, 0, 0, 1);
+
+    /* 3. have both digit buffers room, and both code buffers, by the longer scalar? */
+    CODES_REFUSED(byte(7), byte(2), 8, 9, 9, 9, 3);
+    CODES_REFUSED(byte(7), byte(2), 9, 8, 9, 9, 3);
+    CODES_REFUSED(byte(7), byte(2), 9, 9, 8, 9, 3);
+    CODES_REFUSED(byte(7), byte(2), 9, 9, 9, 8, 3);
+    CODES_REFUSED(byte(7), byte(2), 9, 9, 0, 0, 3);
+    CODES_REFUSED(byte(7), filled(0, 2), 17, 17, 9, 17, 3);
+    CODES_REFUSED(filled(0, 2), byte(7), 17, 17, 17, 9, 3);
+    CODES_REFUSED(filled(255, 66), byte(7), 529, 529, 528, 529, 3);
+    CODES_REFUSED(filled(255, 66), byte(7), 529, 529, 529, 528, 3);
+
+    /* no buffer at all */
+    CHECK(sheets_joint_codes(NULL, 0, NULL, 0, NULL, 0, NULL, 0, NULL, 0, NULL, 0) == (uint64_t)1 << 32);
+    CHECK(sheets_joint_codes((const uint8_t *)"\7", 1, (const uint8_t *)"\2", 1, NULL, 0, NULL, 0, NULL, 0, NULL, 0) == (uint64_t)3 << 32);
+
+    /* scalars of every length: the rows of the joint call, and at every place the code of its remainders */
+    for (n = 1; n <= 66; n++) {
+        static uint8_t k_row[SHEETS_PLACES(66)], l_row[SHEETS_PLACES(66)];
+        struct bytes k = any_scalar(n), l = any_scalar(1 + next_number() % 66);
+        size_t places = SHEETS_PLACES(k.n > l.n ? k.n : l.n);
+        uint8_t *p = lend(&first), *q = lend(&second), *pc = lend(&third), *qc = lend(&fourth);
+        int right = 1;
+        CHECK(sheets_joint_codes(k.at, k.n, l.at, l.n, p, places, q, places, pc, places, qc, places)
+              == sheets_joint(k.at, k.n, l.at, l.n, k_row, places, l_row, places));
+        CHECK(memcmp(p, k_row, places) == 0 && memcmp(q, l_row, places) == 0);
+        CHECK(reads_back(p, places, k) && reads_back(q, places, l));
+        for (i = 0; i < places; i++)
+            right &= pc[i] == code_at(p, q, i, places) && qc[i] == code_at(q, p, i, places);
+        CHECK(right);
+        CHECK(kept(&first, places) && kept(&second, places) && kept(&third, places) && kept(&fourth, places));
         CHECK(only_read(k) & only_read(l));
     }
 }
@@ -653,6 +759,7 @@ int main(void)
 {
     rows();
     joints();
+    codes();
     sheets();
     readings();
     printf("host: %lu checks, %lu failed\n", checks, failed);

@@ -1,9 +1,11 @@
-// Digits and scalars: the byte of a digit, the size of a scalar and its bit length, and windows.
+// Digits and scalars: the byte of a digit, a cleared buffer, the size of a scalar and its bit length, and windows.
+mod buffer;
 mod byte;
 mod length;
 mod scalar;
 mod window;
 
+pub use buffer::clear;
 pub use byte::byte_of;
 pub use length::BitLength;
 pub use length::bit_length;

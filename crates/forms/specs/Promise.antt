@@ -1,19 +1,20 @@
--- What is promised of rows and joint sparse forms, in one place. The definitions are those of Residue, Row, NonAdjacent and
--- Joint and of digits; the proofs are in the files that the answers name.
+-- What is promised of rows, of joint sparse forms and of their codes, in one place. The definitions are those of Residue, Row,
+-- NonAdjacent, Joint and Codes and of digits; the proofs are in the files that the answers name.
 use mathlib.Core.Path.{_≡_}
-use mathlib.Core.Logic.{_≢_}
+use mathlib.Core.Logic.{_≢_, _↔_}
 use mathlib.Core.List.{List}
 use Prim.Native.Nat.{ℕ, suc, _+_, _-_, _%_, _^_, _≤_, _<_, max}
-use lib.IntN.{ℤ, pos, natAbs}
-use lib.ListN.{length, getD}
+use lib.IntN.{ℤ, pos, _+ℤ_, _*ℤ_, natAbs}
+use lib.ListN.{length, getD, take}
 use Rattle.digits.specs.Row.{value, weight, Over}
 use Rattle.digits.specs.Column as Columns
 use Rattle.digits.specs.Scalar.{bitLength}
-use Rattle.digits.specs.Two.{Column, P, Q, two}
+use Rattle.digits.specs.Two.{Column, Two, P, Q, other, of, two}
 use Rattle.forms.specs.Residue.{Residue, residue, width}
 use Rattle.forms.specs.Row.{RowRule, row}
 use Rattle.forms.specs.NonAdjacent.{WidthForm, NonAdjacent}
 use Rattle.forms.specs.Joint.{Keeps, Topped, joint}
+use Rattle.forms.specs.Codes.{Held, digitBy, digits, remainderAt, codes}
 use Rattle.forms.specs.Residue.Only as ResidueOnly
 use Rattle.forms.specs.Residue.Width as Width
 use Rattle.forms.specs.Row.Only as RowOnly
@@ -26,6 +27,8 @@ use Rattle.forms.specs.Joint.Sparse as JointKeeps
 use Rattle.forms.specs.Joint.Unique as JointUnique
 use Rattle.forms.specs.Joint.Fewest as JointFewest
 use Rattle.forms.specs.Joint.Length as JointLength
+use Rattle.forms.specs.Codes.Place as CodesPlace
+use Rattle.forms.specs.Codes.Listed as CodesListed
 
 -- ── One row, for every window m ─────────────────────────────────────────────────────────────
 
@@ -107,3 +110,22 @@ joint-unique = JointUnique.joint-unique
 pub joint-fewest : (k l : ℤ) (cs : List Column) → Columns.Small two cs → value (Columns.row two P cs) ≡ k → value (Columns.row two Q cs) ≡ l
     → Columns.weight two (joint k l) ≤ Columns.weight two cs
 joint-fewest = JointFewest.joint-fewest
+
+-- ── The rule behind every digit ─────────────────────────────────────────────────────────────
+
+-- the remainder at a place is what makes up the number, times 2^place, with the digits below; nothing else does
+pub remainder-is : (k l : ℤ) (r : Two) (i : ℕ) (z : ℤ)
+    → (z ≡ remainderAt k l r i) ↔ (of k l r ≡ value (take i (digits k l r)) +ℤ (pos (2 ^ i) *ℤ z))
+remainder-is k l r i z = CodesPlace.remainder-is k l i r z
+
+-- there are as many codes as columns
+pub codes-length : (k l : ℤ) (r : Two) → length (codes k l r) ≡ length (joint k l)
+codes-length = CodesListed.codes-length
+
+-- at every place, also above the top, the code is the one whose condition holds of the remainders there
+pub codes-held : (k l : ℤ) (r : Two) (i : ℕ) → Held (remainderAt k l r i) (remainderAt k l (other r) i) (getD (codes k l r) i 0)
+codes-held = CodesListed.codes-held
+
+-- and the digit follows from its code and the remainder
+pub codes-digits : (k l : ℤ) (r : Two) (i : ℕ) → getD (digits k l r) i (pos 0) ≡ digitBy (getD (codes k l r) i 0) (remainderAt k l r i)
+codes-digits = CodesListed.codes-digits

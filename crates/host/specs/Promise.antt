@@ -7,6 +7,7 @@ use native.Mathlib.Omega.{arith}
 use Rattle.digits.specs.Scalar.{Bytes}
 use Rattle.digits.specs.Limits.{card}
 use Rattle.recode.specs.Call as Recoding
+use Rattle.codes.specs.Call.{codesAnswer}
 use Rattle.recode.specs.Call.{rowAnswer, jointAnswer}
 use Rattle.recode.specs.declared.answer.Recoded.{Recoded}
 use Rattle.writer.specs.Call as Writing
@@ -17,7 +18,7 @@ use Rattle.sheet.specs.Answer.{answer}
 use Rattle.reader.specs.Judgement.{judgement}
 use Rattle.reader.specs.declared.judge.Judgement.{Judgement}
 use Rattle.host.specs.Told.{packed, toldRecoded, toldSheet, toldJudgement, number, line}
-use Rattle.host.specs.Told.Lengths.{row-short, joint-short, j-short, i-short, cheapest-short}
+use Rattle.host.specs.Told.Lengths.{row-short, joint-short, codes-short, j-short, i-short, cheapest-short}
 use Rattle.host.specs.Told.Lines.{line-within}
 
 -- the high half and the low half of what is told
@@ -44,6 +45,10 @@ row-halves s m places h = packed-halves _ _ (omega (arith, row-short s m places 
 -- a joint form
 pub joint-halves : (k l : List ℕ) (places places′ : ℕ) → Bytes k → Bytes l → RecodedHalves (jointAnswer card k l places places′)
 joint-halves k l places places′ h g = packed-halves _ _ (omega (arith, joint-short k l places places′ h g))
+
+-- with its codes
+pub codes-halves : (k l : List ℕ) (places places′ room room′ : ℕ) → Bytes k → Bytes l → RecodedHalves (codesAnswer card k l places places′ room room′)
+codes-halves k l places places′ room room′ h g = packed-halves _ _ (omega (arith, codes-short k l places places′ room room′ h g))
 
 module _ (k l : List ℕ) (k-bytes : Bytes k) (l-bytes : Bytes l) where
   -- the sheet of plan J

@@ -3,6 +3,7 @@ ghost use lib.ListN.{length};
 ghost use Rattle.digits.specs.Limits.{card};
 ghost use Rattle.digits.specs.Two.{P, Q};
 ghost use Rattle.recode.specs.Call.{rowAnswer, rowBuffer, jointAnswer, jointBuffer};
+ghost use Rattle.codes.specs.Call.{codesAnswer, codesDigits, codesBuffer};
 ghost use Rattle.writer.specs.Call.{jAnswer, jBuffer, iAnswer, iBuffer};
 ghost use Rattle.chooser.specs.Call.{cheapestAnswer, cheapestBuffer};
 ghost use Rattle.sheet.specs.Answer.{answer};
@@ -26,6 +27,25 @@ pub extern "C" fn sheets_joint(k: &[u8], l: &[u8], k_digits: &mut [u8], l_digits
     ensures second { λ _. ⌜ now («l_digits» .exit) ≡ jointBuffer card Q (now (k .entry)) (now (l .entry)) (now («k_digits» .entry)) (now («l_digits» .entry)) ⌝ }
 {
     crate::told::recoded(recode::joint(k, l, k_digits, l_digits))
+}
+
+// The joint sparse form of two scalars, and beside each row the codes of its digits.
+#[no_mangle]
+pub extern "C" fn sheets_joint_codes(
+    k: &[u8],
+    l: &[u8],
+    k_digits: &mut [u8],
+    l_digits: &mut [u8],
+    k_codes: &mut [u8],
+    l_codes: &mut [u8],
+) -> u64
+    ensures answer { λ r. ⌜ r ≡ toldRecoded (codesAnswer card (now (k .entry)) (now (l .entry)) (length (now («k_digits» .entry))) (length (now («l_digits» .entry))) (length (now («k_codes» .entry))) (length (now («l_codes» .entry)))) ⌝ }
+    ensures first { λ _. ⌜ now («k_digits» .exit) ≡ codesDigits card P (now (k .entry)) (now (l .entry)) (now («k_digits» .entry)) (now («l_digits» .entry)) (now («k_codes» .entry)) (now («l_codes» .entry)) ⌝ }
+    ensures second { λ _. ⌜ now («l_digits» .exit) ≡ codesDigits card Q (now (k .entry)) (now (l .entry)) (now («k_digits» .entry)) (now («l_digits» .entry)) (now («k_codes» .entry)) (now («l_codes» .entry)) ⌝ }
+    ensures first_codes { λ _. ⌜ now («k_codes» .exit) ≡ codesBuffer card P (now (k .entry)) (now (l .entry)) (now («k_digits» .entry)) (now («l_digits» .entry)) (now («k_codes» .entry)) (now («l_codes» .entry)) ⌝ }
+    ensures second_codes { λ _. ⌜ now («l_codes» .exit) ≡ codesBuffer card Q (now (k .entry)) (now (l .entry)) (now («k_digits» .entry)) (now («l_digits» .entry)) (now («k_codes» .entry)) (now («l_codes» .entry)) ⌝ }
+{
+    crate::told::recoded(codes::joint_codes(k, l, k_digits, l_digits, k_codes, l_codes))
 }
 
 // The sheet of plan J.

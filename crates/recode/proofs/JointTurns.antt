@@ -4,9 +4,10 @@ use mathlib.Core.List.{List, [], _∷_, _++_, map-append, append-assoc, append-n
 use Prim.Native.Nat.{ℕ, zero, suc, _+_, _*_, _^_, _≤_, _<_}
 use native.Mathlib.Omega.{arith}
 use lib.IntN.{ℤ, pos}
-use lib.ListN.{length, set, replicate, length-append, length-map, length-replicate}
+use lib.ListN.{length, set, replicate, length-append, length-replicate}
 use Rattle.digits.specs.Byte.{byteOf}
 use Rattle.digits.specs.Column as Column
+use Rattle.digits.specs.Column.Length.{row-length}
 use Rattle.digits.specs.Integer.{up}
 use Rattle.digits.specs.Two as Two
 use Rattle.digits.specs.Two.{Two, P, of, two, blankColumn}
@@ -31,10 +32,6 @@ row-one : (r : Two) (c : Two.Column) → Column.row two r (c ∷ []) ≡ Two.dig
 unfolding Column.row
 row-one r c = refl
 
-pub row-length : (r : Two) (cs : List Two.Column) → length (Column.row two r cs) ≡ length cs
-unfolding Column.row
-row-length r cs = length-map cs (λ c. Two.digit c r)
-
 row-blank : (r : Two) (z : ℕ) → Column.row two r (replicate z blankColumn) ≡ replicate z (pos 0)
 unfolding Column.row
 row-blank r zero = refl
@@ -55,7 +52,7 @@ relaid {n = n} {place = place} e t =
 module _ (k₀ l₀ n : ℕ) (fits : length (joint (pos k₀) (pos l₀)) ≤ n) where
   pub bound : {k l place : ℕ} {out : Two → List ℕ} → Turn k₀ l₀ n k l out place → place + length (joint (pos k) (pos l)) ≤ n
   bound {k} {l} t =
-      omega (arith, ap length (t .whole), length-append (t .done) (joint (pos k) (pos l)), t .laid P .places, row-length P (t .done))
+      omega (arith, ap length (t .whole), length-append (t .done) (joint (pos k) (pos l)), t .laid P .places, row-length two P (t .done))
 
   pub start : (out : Two → List ℕ) → ((r : Two) → out r ≡ replicate n 0) → Turn k₀ l₀ n k₀ l₀ out 0
   unfolding Column.row
@@ -108,6 +105,6 @@ module _ (k₀ l₀ n : ℕ) (fits : length (joint (pos k₀) (pos l₀)) ≤ n)
       let all : joint (pos k₀) (pos l₀) ≡ t .done =
       t .whole ∙ ap (λ (cs : List Two.Column). t .done ++ cs) joint-zero ∙ append-nil (t .done)
       in (
-        sym (ap length all ∙ sym (row-length P (t .done)) ∙ t .laid P .places),
+        sym (ap length all ∙ sym (row-length two P (t .done)) ∙ t .laid P .places),
         λ r. t .laid r .buffer ∙ rw (all, e r, t .laid r .places),
       )

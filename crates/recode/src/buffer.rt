@@ -3,17 +3,6 @@ ghost use mathlib.Core.List.{_++_, reverse};
 ghost use Prim.Native.Nat.{_-_, _≤_};
 ghost use lib.ListN.{length, replicate};
 
-// All places 0.
-pub fn clear(buffer: &mut [u8])
-    ensures { λ _. ⌜ now (buffer .exit) ≡ replicate (length (now (buffer .entry))) 0 ⌝ }
-{
-    let mut i = 0;
-    while i < buffer.len() {
-        buffer[i] = 0;
-        i += 1;
-    }
-}
-
 // The scalar's bytes, the least significant first, and zeros above them.
 pub fn copied(scalar: &[u8]) -> [u8; 67]
     requires { ⌜ length (now scalar) ≤ 67 ⌝ }

@@ -118,8 +118,8 @@ fn write_joint(k: &[u8], l: &[u8], k_out: &mut [u8], l_out: &mut [u8]) -> usize
     let places = larger(k_bits, l_bits) + 1;
     let k_bytes = crate::buffer::copied(k);
     let l_bytes = crate::buffer::copied(l);
-    crate::buffer::clear(k_out);
-    crate::buffer::clear(l_out);
+    digits::clear(k_out);
+    digits::clear(l_out);
     let k_used = (k_bits + 7) / 8;
     let l_used = (l_bits + 7) / 8;
     write_columns(

@@ -75,7 +75,7 @@ fn write_row(scalar: &[u8], m: u16, out: &mut [u8]) -> usize
     let used = (bits + 7) / 8;
     let places = bits + 1;
     let bytes = crate::buffer::copied(scalar);
-    crate::buffer::clear(out);
+    digits::clear(out);
     let half = crate::digit::half_of(m);
     write_digits(&bytes, used, m, half, &mut out[..places])
 }

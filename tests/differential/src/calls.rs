@@ -1,4 +1,4 @@
-//! The six calls: their questions in order, their answers, and how a call is printed and read
+//! The seven calls: their questions in order, their answers, and how a call is printed and read
 //! back.
 
 use crate::cheapest::Weights;
@@ -6,18 +6,50 @@ use crate::plan::{Plan, MOST_SLOTS};
 use crate::reader::{self, Refusal, LONGEST_SHEET};
 use crate::scalars::{self, MOST_BYTES};
 use crate::sheet::Sheet;
-use crate::{joint, row};
+use crate::{codes, joint, row};
 use std::fmt;
 
 /// A call with all that is lent to it, but for what its buffers hold before.
 #[derive(Clone, PartialEq, Eq, Debug)]
 pub enum Call {
-    Row { scalar: Vec<u8>, m: u32, places: usize },
-    Joint { k: Vec<u8>, l: Vec<u8>, k_places: usize, l_places: usize },
-    PlanJ { k: Vec<u8>, l: Vec<u8>, room: usize },
-    PlanI { k: Vec<u8>, l: Vec<u8>, m1: u32, m2: u32, room: usize },
-    Cheapest { k: Vec<u8>, l: Vec<u8>, limit: u32, room: usize },
-    Read { sheet: Vec<u8> },
+    Row {
+        scalar: Vec<u8>,
+        m: u32,
+        places: usize,
+    },
+    Joint {
+        k: Vec<u8>,
+        l: Vec<u8>,
+        k_places: usize,
+        l_places: usize,
+    },
+    /// The rooms are those of the two digit buffers and then of the two code buffers.
+    JointCodes {
+        k: Vec<u8>,
+        l: Vec<u8>,
+        rooms: [usize; 4],
+    },
+    PlanJ {
+        k: Vec<u8>,
+        l: Vec<u8>,
+        room: usize,
+    },
+    PlanI {
+        k: Vec<u8>,
+        l: Vec<u8>,
+        m1: u32,
+        m2: u32,
+        room: usize,
+    },
+    Cheapest {
+        k: Vec<u8>,
+        l: Vec<u8>,
+        limit: u32,
+        room: usize,
+    },
+    Read {
+        sheet: Vec<u8>,
+    },
 }
 
 /// The answer to a call.
@@ -29,6 +61,13 @@ pub enum Answer {
     Row(Vec<i8>),
     /// Two rows over the same places.
     Columns(Vec<i8>, Vec<i8>),
+    /// Two rows over the same places, and the codes of each.
+    Coded {
+        k_row: Vec<i8>,
+        l_row: Vec<i8>,
+        k_codes: Vec<u8>,
+        l_codes: Vec<u8>,
+    },
     Sheet(Vec<u8>),
     /// The reader accepts.
     Accepted,
@@ -44,7 +83,9 @@ impl Answer {
     pub fn code(&self) -> u64 {
         match self {
             Answer::Refused(Refusal { number, line }) => u64::from(*number) << 32 | *line as u64,
-            Answer::Row(digits) | Answer::Columns(digits, _) => digits.len() as u64,
+            Answer::Row(digits)
+            | Answer::Columns(digits, _)
+            | Answer::Coded { k_row: digits, .. } => digits.len() as u64,
             Answer::Sheet(bytes) => bytes.len() as u64,
             Answer::Accepted => 0,
         }
@@ -58,6 +99,15 @@ impl Answer {
                 leave_digits(k_row, k_buffer);
                 leave_digits(l_row, l_buffer);
             }
+            (
+                Answer::Coded { k_row, l_row, k_codes, l_codes },
+                [k_digits, l_digits, k_buffer, l_buffer],
+            ) => {
+                leave_digits(k_row, k_digits);
+                leave_digits(l_row, l_digits);
+                leave_bytes(k_codes, k_buffer);
+                leave_bytes(l_codes, l_buffer);
+            }
             (Answer::Sheet(bytes), [buffer]) => buffer[..bytes.len()].copy_from_slice(bytes),
             (Answer::Refused(_) | Answer::Accepted, _) => {}
             _ => unreachable!("every answer has its own number of buffers"),
@@ -67,10 +117,14 @@ impl Answer {
 
 /// The digits in two's complement; the unused places hold 0.
 fn leave_digits(digits: &[i8], buffer: &mut [u8]) {
-    let (used, unused) = buffer.split_at_mut(digits.len());
-    for (byte, &digit) in used.iter_mut().zip(digits) {
-        *byte = digit as u8;
-    }
+    let bytes: Vec<u8> = digits.iter().map(|&digit| digit as u8).collect();
+    leave_bytes(&bytes, buffer);
+}
+
+/// The bytes, and 0 at the unused places.
+fn leave_bytes(bytes: &[u8], buffer: &mut [u8]) {
+    let (used, unused) = buffer.split_at_mut(bytes.len());
+    used.copy_from_slice(bytes);
     unused.fill(0);
 }
 
@@ -88,6 +142,13 @@ impl Call {
                 let columns = joint::recode(scalars::value(k), scalars::value(l));
                 let (k_row, l_row) = joint::rows(&columns);
                 Answer::Columns(k_row, l_row)
+            }
+            Call::JointCodes { k, l, .. } => {
+                let (k, l) = (scalars::value(k), scalars::value(l));
+                let columns = joint::recode(k, l);
+                let (k_row, l_row) = joint::rows(&columns);
+                let (k_codes, l_codes) = codes::of_columns(k, l, &columns);
+                Answer::Coded { k_row, l_row, k_codes, l_codes }
             }
             Call::PlanJ { k, l, .. } => sheet(Plan::Joint, k, l),
             Call::PlanI { k, l, m1, m2, .. } => {
@@ -117,6 +178,13 @@ impl Call {
                     (*k_places > 8 * bytes && *l_places > 8 * bytes, 3),
                 ]
             }
+            Call::JointCodes { k, l, rooms } => {
+                let bytes = k.len().max(l.len());
+                vec![
+                    (has_length(k) && has_length(l), 1),
+                    (rooms.iter().all(|&room| room > 8 * bytes), 3),
+                ]
+            }
             Call::PlanJ { k, l, room } => {
                 vec![(has_length(k) && has_length(l), 1), (*room >= LONGEST_SHEET, 3)]
             }
@@ -140,6 +208,7 @@ impl Call {
         match self {
             Call::Row { scalar, .. } => vec![scalar],
             Call::Joint { k, l, .. }
+            | Call::JointCodes { k, l, .. }
             | Call::PlanJ { k, l, .. }
             | Call::PlanI { k, l, .. }
             | Call::Cheapest { k, l, .. } => vec![k, l],
@@ -152,6 +221,7 @@ impl Call {
         match self {
             Call::Row { places, .. } => vec![*places],
             Call::Joint { k_places, l_places, .. } => vec![*k_places, *l_places],
+            Call::JointCodes { rooms, .. } => rooms.to_vec(),
             Call::PlanJ { room, .. } | Call::PlanI { room, .. } | Call::Cheapest { room, .. } => {
                 vec![*room]
             }
@@ -180,6 +250,10 @@ impl fmt::Display for Call {
             Call::Joint { k, l, k_places, l_places } => {
                 write!(out, "joint {} {} {k_places} {l_places}", hex(k), hex(l))
             }
+            Call::JointCodes { k, l, rooms: [k_digits, l_digits, k_codes, l_codes] } => {
+                let (k, l) = (hex(k), hex(l));
+                write!(out, "joint-codes {k} {l} {k_digits} {l_digits} {k_codes} {l_codes}")
+            }
             Call::PlanJ { k, l, room } => write!(out, "plan-j {} {} {room}", hex(k), hex(l)),
             Call::PlanI { k, l, m1, m2, room } => {
                 write!(out, "plan-i {} {} {m1} {m2} {room}", hex(k), hex(l))
@@ -203,6 +277,16 @@ pub fn parse(words: &[&str]) -> Option<Call> {
             l: unhex(l)?,
             k_places: k_places.parse().ok()?,
             l_places: l_places.parse().ok()?,
+        },
+        ["joint-codes", k, l, k_digits, l_digits, k_codes, l_codes] => Call::JointCodes {
+            k: unhex(k)?,
+            l: unhex(l)?,
+            rooms: [
+                k_digits.parse().ok()?,
+                l_digits.parse().ok()?,
+                k_codes.parse().ok()?,
+                l_codes.parse().ok()?,
+            ],
         },
         ["plan-j", k, l, room] => {
             Call::PlanJ { k: unhex(k)?, l: unhex(l)?, room: room.parse().ok()? }
@@ -253,6 +337,7 @@ mod tests {
         let calls = [
             Call::Row { scalar: k.clone(), m: 4, places: 17 },
             Call::Joint { k: k.clone(), l: l.clone(), k_places: 17, l_places: 0 },
+            Call::JointCodes { k: k.clone(), l: l.clone(), rooms: [17, 0, 18, 529] },
             Call::PlanJ { k: k.clone(), l: l.clone(), room: 16_384 },
             Call::PlanI { k: k.clone(), l: l.clone(), m1: 5, m2: u32::MAX, room: 16_383 },
             Call::Cheapest { k, l, limit: 32, room: 0 },

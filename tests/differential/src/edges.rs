@@ -12,6 +12,8 @@ pub fn all() -> Vec<(Call, Answer)> {
     edges.extend(runs_of_ones());
     edges.extend(row_refusals());
     edges.extend(joint_refusals());
+    edges.extend(codes());
+    edges.extend(code_refusals());
     edges.extend(plan_refusals());
     edges.extend(cheapest_sheets());
     edges.extend(reads());
@@ -90,6 +92,45 @@ fn joint_refusals() -> Vec<(Call, Answer)> {
     ]
 }
 
+/// A sign that turns at 3 beside 2, in either row, and at 5 beside 2; none that turns at 1 beside 6,
+/// and none in a run of ones.
+fn codes() -> Vec<(Call, Answer)> {
+    let carried = sparse(529, &[(0, -1), (528, 1)]);
+    let carried_codes = sparse(529, &[(0, 1), (528, 1)]);
+    vec![
+        (coded(&[0], &[0], [9; 4]), codes_are(&[], &[], &[], &[])),
+        (coded(&[3], &[2], [9, 10, 11, 600]), codes_are(&[1, 1], &[2, 1], &[0, 1], &[0, 1])),
+        (coded(&[2], &[3], [9; 4]), codes_are(&[0, 1], &[0, 1], &[1, 1], &[2, 1])),
+        (
+            coded(&[0, 5], &[2], [17; 4]),
+            codes_are(&[-1, -1, 0, 1], &[2, 1, 0, 1], &[0, 1, 0, 0], &[0, 1, 0, 0]),
+        ),
+        (
+            coded(&[1], &[6], [9; 4]),
+            codes_are(&[1, 0, 0, 0], &[1, 0, 0, 0], &[0, -1, 0, 1], &[0, 1, 0, 1]),
+        ),
+        (
+            coded(&[255; 66], &[255; 66], [529, 600, 529, 529]),
+            codes_are(&carried, &carried_codes, &carried, &carried_codes),
+        ),
+    ]
+}
+
+fn code_refusals() -> Vec<(Call, Answer)> {
+    vec![
+        (coded(&[255; 67], &[10], [537; 4]), refused(1)),
+        (coded(&[13], &[], [9; 4]), refused(1)),
+        (coded(&[13], &[], [0; 4]), refused(1)),
+        (coded(&[13], &[10], [8, 9, 9, 9]), refused(3)),
+        (coded(&[13], &[10], [9, 8, 9, 9]), refused(3)),
+        (coded(&[13], &[10], [9, 9, 8, 9]), refused(3)),
+        (coded(&[13], &[10], [9, 9, 9, 8]), refused(3)),
+        (coded(&[13], &[0, 10], [17, 17, 16, 17]), refused(3)),
+        (coded(&[0, 13], &[10], [17, 17, 17, 16]), refused(3)),
+        (coded(&[255; 66], &[10], [529, 529, 529, 528]), refused(3)),
+    ]
+}
+
 fn plan_refusals() -> Vec<(Call, Answer)> {
     vec![
         (plan_j(0, 66, 16_384), refused(1)),
@@ -162,6 +203,20 @@ fn row(scalar: &[u8], m: u32, places: usize) -> Call {
 
 fn joint(k: &[u8], l: &[u8], k_places: usize, l_places: usize) -> Call {
     Call::Joint { k: k.to_vec(), l: l.to_vec(), k_places, l_places }
+}
+
+fn coded(k: &[u8], l: &[u8], rooms: [usize; 4]) -> Call {
+    Call::JointCodes { k: k.to_vec(), l: l.to_vec(), rooms }
+}
+
+fn codes_are(k_row: &[i8], k_codes: &[i8], l_row: &[i8], l_codes: &[i8]) -> Answer {
+    let bytes = |codes: &[i8]| codes.iter().map(|&code| code as u8).collect();
+    Answer::Coded {
+        k_row: k_row.to_vec(),
+        l_row: l_row.to_vec(),
+        k_codes: bytes(k_codes),
+        l_codes: bytes(l_codes),
+    }
 }
 
 /// Plan J of two scalars in so many bytes.

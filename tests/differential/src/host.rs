@@ -16,6 +16,20 @@ extern "C" {
         l_digits: *mut u8,
         l_places: usize,
     ) -> u64;
+    fn sheets_joint_codes(
+        k: *const u8,
+        kn: usize,
+        l: *const u8,
+        ln: usize,
+        k_digits: *mut u8,
+        k_places: usize,
+        l_digits: *mut u8,
+        l_places: usize,
+        k_codes: *mut u8,
+        k_room: usize,
+        l_codes: *mut u8,
+        l_room: usize,
+    ) -> u64;
     fn sheets_plan_j(
         k: *const u8,
         kn: usize,
@@ -60,6 +74,17 @@ pub fn make(call: &Call, inputs: &mut [Lent], buffers: &mut [Lent]) -> u64 {
             let ((k, kn), (l, ln)) = (k.raw(), l.raw());
             let ((k_digits, k_places), (l_digits, l_places)) = (k_digits.raw(), l_digits.raw());
             unsafe { sheets_joint(k, kn, l, ln, k_digits, k_places, l_digits, l_places) }
+        }
+        (Call::JointCodes { .. }, [k, l], [k_digits, l_digits, k_codes, l_codes]) => {
+            let ((k, kn), (l, ln)) = (k.raw(), l.raw());
+            let ((k_digits, k_places), (l_digits, l_places)) = (k_digits.raw(), l_digits.raw());
+            let ((k_codes, k_room), (l_codes, l_room)) = (k_codes.raw(), l_codes.raw());
+            unsafe {
+                sheets_joint_codes(
+                    k, kn, l, ln, k_digits, k_places, l_digits, l_places, k_codes, k_room, l_codes,
+                    l_room,
+                )
+            }
         }
         (Call::PlanJ { .. }, [k, l], [sheet]) => {
             let ((k, kn), (l, ln), (sheet, room)) = (k.raw(), l.raw(), sheet.raw());

@@ -6,6 +6,7 @@ pub mod calls;
 pub mod card;
 pub mod carry_stops;
 pub mod cheapest;
+pub mod codes;
 pub mod damage;
 pub mod edges;
 pub mod foreign;

@@ -64,7 +64,7 @@ impl Outcome {
 /// Digits as numbers, sheets as text.
 fn show(bytes: &[u8], call: &Call) -> String {
     match call {
-        Call::Row { .. } | Call::Joint { .. } => {
+        Call::Row { .. } | Call::Joint { .. } | Call::JointCodes { .. } => {
             format!("{:?}", bytes.iter().map(|&byte| byte as i8).collect::<Vec<_>>())
         }
         _ => format!("\"{}\"", bytes.escape_ascii()),

@@ -34,6 +34,7 @@ pub const SEVEN_AND_TWO: &str = "S,I,1,1,0,2,3,7,2\nL,1,0\nD\nD\nA,0,1\nD\nA,-1,
 pub fn all() -> Vec<(Call, Says)> {
     let mut samples = rows();
     samples.extend(joint_forms());
+    samples.extend(codes());
     samples.extend(bounds());
     samples.extend(orders());
     samples.extend(printed_rows());
@@ -65,6 +66,21 @@ fn joint_forms() -> Vec<(Call, Says)> {
         sample(7, 2, &[-1, 0, 0, 1], &[0, 1, 0, 0]),
         sample(3, 2, &[1, 1], &[0, 1]),
         sample(1, 2, &[1, 0], &[0, 1]),
+    ]
+}
+
+/// The joint forms that turn a sign, and one that does not, with their codes worked out by hand.
+fn codes() -> Vec<(Call, Says)> {
+    let sample = |k, l, k_row: &[i8], k_codes: &[u8], l_row: &[i8], l_codes: &[u8]| {
+        let call = Call::JointCodes { k: vec![k], l: vec![l], rooms: [9; 4] };
+        let (k_row, l_row) = (k_row.to_vec(), l_row.to_vec());
+        let (k_codes, l_codes) = (k_codes.to_vec(), l_codes.to_vec());
+        (call, Says::Whole(Answer::Coded { k_row, l_row, k_codes, l_codes }))
+    };
+    vec![
+        sample(13, 10, &[-1, -1, 0, 0, 1], &[2, 1, 0, 0, 1], &[0, 1, 0, 1, 0], &[0, 1, 0, 1, 0]),
+        sample(7, 2, &[-1, 0, 0, 1], &[1, 0, 0, 1], &[0, 1, 0, 0], &[0, 1, 0, 0]),
+        sample(3, 2, &[1, 1], &[2, 1], &[0, 1], &[0, 1]),
     ]
 }
 

@@ -42,7 +42,8 @@ unfolding row
 small-bytewise r empty = all
 small-bytewise r (more {c = c} h hs) = next {d = digit c r} (omega (arith, h r)) (small-bytewise r hs)
 
-column-row : {cs : List Column} (r : Two) (rest : List ℕ) → Small two cs → rowBelow (length cs) (map byteOf (row two r cs) ++ rest) ≡ row two r cs
+-- one row of columns
+pub column-row : {cs : List Column} (r : Two) (rest : List ℕ) → Small two cs → rowBelow (length cs) (map byteOf (row two r cs) ++ rest) ≡ row two r cs
 unfolding row
 column-row {cs} r rest h =
     ap (λ (n : ℕ). rowBelow n (map byteOf (row two r cs) ++ rest)) (sym (length-map cs (λ c. digit c r)))

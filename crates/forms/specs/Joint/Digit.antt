@@ -19,11 +19,11 @@ pub rem-two : (c : ℤ) → natAbs c % 2 ≡ rem c 8 % 2
 rem-two (pos n) = omega arith
 rem-two (negsuc n) = omega arith
 
-rem-four : (c : ℤ) → rem c 4 ≡ rem c 8 % 4
+pub rem-four : (c : ℤ) → rem c 4 ≡ rem c 8 % 4
 rem-four (pos n) = omega arith
 rem-four (negsuc n) = omega arith
 
-rem-eight : (c : ℤ) → rem c 8 % 8 ≡ rem c 8
+pub rem-eight : (c : ℤ) → rem c 8 % 8 ≡ rem c 8
 rem-eight c = omega (arith, rem-lt c 8 (omega arith))
 
 -- the digit is that of the remainders by 8
@@ -91,6 +91,16 @@ rest-only c o a e = omega (integers, rest-parts c o, sum (digit c o) (a +ℤ a),
 -- numbers with one digit that differ by a multiple of 8 leave numbers that differ by a multiple of 4
 pub alike-rest : (k x l y : ℤ) (a b : ℕ) → digit k l ≡ digit x y → Alike k x (8 * a) (8 * b) → Alike (rest k l) (rest x y) (4 * a) (4 * b)
 alike-rest k x l y a b e p = omega (integers, e, rest-parts k l, rest-parts x y)
+
+-- what is left has the remainder by 4 that what is left of the remainders has
+pub rest-rem : (k l : ℤ) → rem (rest k l) 4 ≡ rem (rest (pos (rem k 8)) (pos (rem l 8))) 4
+rest-rem k l =
+    let x : ℤ = pos (rem k 8) in
+    let y : ℤ = pos (rem l 8) in
+    let a : ℕ = up (quo k 8) in
+    let b : ℕ = down (quo k 8) in
+    let p : Alike k x (8 * a) (8 * b) = omega (arith, division k 8 (omega arith)) in
+    alike-rem 4 (rest k l) (rest x y) a b (omega arith) (alike-rest k x l y a b (digit-rem k l) p)
 
 -- a number of size 1 is its own digit
 pub digit-unit : (c o : ℤ) → natAbs c ≡ 1 → digit c o ≡ c

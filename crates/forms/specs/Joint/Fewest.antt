@@ -15,7 +15,7 @@ use Rattle.digits.specs.Column.Adding.{Has, Above}
 use Rattle.digits.specs.Two.{Column, Two, P, Q, two, blank, of}
 use Rattle.forms.specs.Residue.{residue}
 use Rattle.forms.specs.Joint.{digit, column, rest, joint}
-use Rattle.forms.specs.Joint.Digit.{Alike, Split, alike-rem, alike-rest, rem-two, digit-rem, rest-only, rest-parts, digit-fits}
+use Rattle.forms.specs.Joint.Digit.{Split, rem-two, rest-rem, rest-only, rest-parts, digit-fits}
 use Rattle.forms.specs.Joint.Rule.{JointRule, end, place, joint-rule}
 use Rattle.forms.specs.Test.{Test, both, either, fails, equal, everyBelow, everyRow, someRow, rows}
 
@@ -37,16 +37,6 @@ kinds x y t s =
 table : (x : ℕ) → x < 8 → (y : ℕ) → y < 8 → Kinds x y (rem (rest (pos x) (pos y)) 4) (rem (rest (pos y) (pos x)) 4)
 unfolding digit residue rest half
 table = everyBelow 8 (λ x. everyBelow 8 (λ y. kinds x y (rem (rest (pos x) (pos y)) 4) (rem (rest (pos y) (pos x)) 4))) .tells tt
-
--- what is left has the remainder by 4 that what is left of the remainders has
-rest-rem : (k l : ℤ) → rem (rest k l) 4 ≡ rem (rest (pos (rem k 8)) (pos (rem l 8))) 4
-rest-rem k l =
-    let x : ℤ = pos (rem k 8) in
-    let y : ℤ = pos (rem l 8) in
-    let a : ℕ = up (quo k 8) in
-    let b : ℕ = down (quo k 8) in
-    let p : Alike k x (8 * a) (8 * b) = omega (arith, division k 8 (omega arith)) in
-    alike-rem 4 (rest k l) (rest x y) a b (omega arith) (alike-rest k x l y a b (digit-rem k l) p)
 
 kinds-of : (k l : ℤ) → Kinds (rem k 8) (rem l 8) (rem (rest k l) 4) (rem (rest l k) 4)
 kinds-of k l = rw (rest-rem k l, rest-rem l k) (table (rem k 8) (rem-lt k 8 (omega arith)) (rem l 8) (rem-lt l 8 (omega arith)))

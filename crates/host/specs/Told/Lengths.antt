@@ -17,6 +17,7 @@ use Rattle.forms.specs.Joint.{joint}
 use Rattle.forms.specs.Promise.{row-length, joint-length}
 use Rattle.forms.specs.Row.{row}
 use Rattle.recode.specs.Call as Recoding
+use Rattle.codes.specs.Call.{ifRoomy, codesAnswer}
 use Rattle.recode.specs.Call.{rowAnswer, jointAnswer}
 use Rattle.recode.specs.declared.answer.Recoded.the-variants as recoded
 use Rattle.recode.specs.declared.answer.Recoded.{Recoded}
@@ -84,6 +85,22 @@ joint-short s t places places′ s-bytes t-bytes =
     chosen Recoding.placesWritten most (sized card s && sized card t) (cond roomy written recoded.NoRoom) recoded.BadScalar
     (λ e. chosen Recoding.placesWritten most roomy written recoded.NoRoom
     (λ _. joint-places s t s-bytes t-bytes e) (omega arith)) (omega arith)
+
+-- and of one with codes, which asks for more room
+roomy-short : (met : Bool) (a : Recoded) (n : ℕ) → Recoding.placesWritten a ≤ n → Recoding.placesWritten (ifRoomy met a) ≤ n
+roomy-short met recoded.BadScalar n h = h
+roomy-short met recoded.BadWindow n h = h
+roomy-short met recoded.NoRoom n h = h
+roomy-short true (recoded.Written m) n h = h
+roomy-short false (recoded.Written m) n h = omega arith
+
+pub codes-short : (s t : List ℕ) (places places′ room room′ : ℕ) → Bytes s → Bytes t
+    → Recoding.placesWritten (codesAnswer card s t places places′ room room′) ≤ 8 * card .bytes + 1
+unfolding codesAnswer
+codes-short s t places places′ room room′ s-bytes t-bytes =
+    let longer : ℕ = max (length s) (length t) in
+    roomy-short (Recoding.roomy longer room && Recoding.roomy longer room′) (jointAnswer card s t places places′) (8 * card .bytes + 1)
+    (joint-short s t places places′ s-bytes t-bytes)
 
 -- ── sheets ──────────────────────────────────────────────────────────────────────────────────
 

@@ -1,4 +1,4 @@
-//! Joint sparse forms.
+//! Joint sparse forms, without their codes and with them.
 
 use super::refused_scalars;
 use crate::judge::Judge;
@@ -21,9 +21,10 @@ pub fn run(judge: &mut Judge, random: &mut Random) {
 
 fn compare_with_room(judge: &mut Judge, random: &mut Random, k: Vec<u8>, l: Vec<u8>) {
     let exact = 8 * k.len().max(l.len()) + 1;
-    let k_places = exact + random.pick(&[0, 0, 1, 300]);
-    let l_places = exact + random.pick(&[0, 0, 1, 300]);
-    judge.compare(&Call::Joint { k, l, k_places, l_places });
+    let rooms = [(); 4].map(|()| exact + random.pick(&[0, 0, 1, 300]));
+    let [k_places, l_places, ..] = rooms;
+    judge.compare(&Call::Joint { k: k.clone(), l: l.clone(), k_places, l_places });
+    judge.compare(&Call::JointCodes { k, l, rooms });
 }
 
 fn every_two_lengths(judge: &mut Judge, random: &mut Random) {
@@ -53,6 +54,11 @@ fn refused_lengths(judge: &mut Judge, random: &mut Random) {
             for places in [0, 529, enough] {
                 for (k, l) in [(&bad, other), (other, &bad)] {
                     let (k, l) = (k.clone(), l.clone());
+                    judge.compare(&Call::JointCodes {
+                        k: k.clone(),
+                        l: l.clone(),
+                        rooms: [places; 4],
+                    });
                     judge.compare(&Call::Joint { k, l, k_places: places, l_places: places });
                 }
             }
@@ -60,7 +66,7 @@ fn refused_lengths(judge: &mut Judge, random: &mut Random) {
     }
 }
 
-/// Either buffer may be the one that is too small for the longer scalar.
+/// Any buffer may be the one that is too small for the longer scalar.
 fn small_buffers(judge: &mut Judge, random: &mut Random) {
     for _ in 0..200 {
         let (k, l) = scalars::random_pair(random);
@@ -69,6 +75,11 @@ fn small_buffers(judge: &mut Judge, random: &mut Random) {
         for small in [0, by_shorter, exact - 1] {
             for (k_places, l_places) in [(small, exact), (exact, small), (small, small)] {
                 judge.compare(&Call::Joint { k: k.clone(), l: l.clone(), k_places, l_places });
+            }
+            for short in 1..16 {
+                let room = |i: usize| if short >> i & 1 == 1 { small } else { exact };
+                let rooms = [room(0), room(1), room(2), room(3)];
+                judge.compare(&Call::JointCodes { k: k.clone(), l: l.clone(), rooms });
             }
         }
     }

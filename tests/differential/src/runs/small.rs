@@ -45,6 +45,7 @@ fn compare_joint_forms(judge: &mut Judge, columns: &Least) {
                 let got = pairs.filter(|&pair| pair != (&0, &0)).count();
                 Claim { what: "weight", expected, got }
             });
+            judge.compare(&Call::JointCodes { k: small(k), l: small(l), rooms: [9; 4] });
         }
     }
 }

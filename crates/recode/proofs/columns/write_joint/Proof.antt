@@ -8,12 +8,12 @@ use lib.IntN.{pos}
 use lib.ListN.{length, take, replicate}
 use Rattle.digits.specs.Scalar.Value.{length-bytes}
 use Rattle.digits.specs.Column as Column
+use Rattle.digits.specs.Column.Length.{row-length}
 use Rattle.digits.specs.Scalar.{little, scalar, bitLength}
 use Rattle.digits.specs.Two.{P, Q, two}
 use Rattle.forms.specs.Joint.{joint}
 use Rattle.forms.specs.Joint.Length.{joint-length}
 use Rattle.recode.specs.Call.{filled}
-use Rattle.recode.proofs.JointTurns.{row-length}
 use Rattle.recode.proofs.Prefix.{first-length, first-cleared, first-filled, first-places, little-copied}
 use Rattle.recode.proofs.columns.write_joint.Statement.{statement}
 use Rattle.recode.proofs.columns.write_joint.Tie as tie
@@ -133,10 +133,10 @@ returns c =
       w .ensures .0 ∙ ap₂ (λ (a b : ℕ). length (joint (pos a) (pos b))) (k-number k) (l-number k),
       (
         first-filled (c .before .before .before .before .before .before .before .before .before .before .before .before .before .before .before .before .before .before .before .before .before .before .before .before .before .before .args .k-out .now) (c .before .before .before .before .before .before .before .before .before .before .before .before .before .before .before .clear .last .0) n (c .before .before .before .before .before .before .before .before .before .before .before .before .before .before .before .clear .ensures) (k-enough k) (Column.row two P cs) _
-            (omega (arith, short k, row-length P cs)) (w .ensures .1 .0)
+            (omega (arith, short k, row-length two P cs)) (w .ensures .1 .0)
             ∙ ap₂ (λ (a b : ℕ). filled (Column.row two P (joint (pos a) (pos b))) (c .before .before .before .before .before .before .before .before .before .before .before .before .before .before .before .before .before .before .before .before .before .before .before .before .before .before .args .k-out .now)) (k-number k) (l-number k),
         first-filled (c .before .before .before .before .before .before .before .before .before .before .before .before .before .before .before .before .before .before .before .before .before .before .before .before .before .before .args .l-out .now) (k .clear2 .last .0) n (k .clear2 .ensures) (l-enough k) (Column.row two Q cs) _
-            (omega (arith, short k, row-length Q cs)) (w .ensures .1 .1)
+            (omega (arith, short k, row-length two Q cs)) (w .ensures .1 .1)
             ∙ ap₂ (λ (a b : ℕ). filled (Column.row two Q (joint (pos a) (pos b))) (c .before .before .before .before .before .before .before .before .before .before .before .before .before .before .before .before .before .before .before .before .before .before .before .before .before .before .args .l-out .now)) (k-number k) (l-number k),
       ),
     )

@@ -5,8 +5,8 @@ use Prim.Native.Nat.{ℕ, _≤_, _<_, _-_}
 use native.Mathlib.Omega.{arith}
 use borrow.Author.Fill.{fill-none, fill-more}
 use lib.ListN.{length, drop, set, replicate, length-set, drop-of-length-le}
-use Rattle.recode.proofs.buffer.clear.Statement.{statement}
-use Rattle.recode.proofs.buffer.clear.Tie as tie
+use Rattle.digits.proofs.buffer.clear.Statement.{statement}
+use Rattle.digits.proofs.buffer.clear.Tie as tie
 
 abbrev Inv-loop : tie.InvT-loop
 Inv-loop buffer₀ i₀ buffer i =

@@ -1,0 +1,113 @@
+-- `write_both` meets its contract: every question of the joint call is met, and its rows are as `write_codes` asks and give the codes.
+use mathlib.Core.Path.{_≡_, refl, sym, _∙_}
+use native.Mathlib.Omega.{arith}
+use borrow.Author.Needs.{needs}
+use lib.IntN.{pos}
+use lib.ListN.{length}
+use Rattle.digits.specs.Limits.{card}
+use Rattle.digits.specs.Scalar.{Bytes, scalar}
+use Rattle.digits.specs.Two.{P, Q}
+use Rattle.forms.specs.Joint.{joint}
+use Rattle.recode.specs.Call.{filled}
+use Rattle.recode.specs.Call.Joint.{Returned, written}
+use Rattle.recode.specs.declared.answer.Recoded.the-variants.{Written}
+use Rattle.codes.specs.Call.{digitsOf}
+use Rattle.codes.proofs.Coded.{asks, leaves}
+use Rattle.codes.proofs.call.write_both.Statement.{statement}
+use Rattle.codes.proofs.call.write_both.Tie as tie
+
+joint-requires : tie.Need-joint-requires
+joint-requires c κs = search needs
+
+abbrev asked : tie.After-joint → tie.Start
+asked c = c .before .before .before .before .before .before .before .before .before
+
+module _ (c : tie.After-joint) where
+  k-bytes : Bytes (asked c .args .k .now)
+  k-bytes i = c .before .before .before .before .before .before .before .before .shared-slice-known .given i .fits
+
+  l-bytes : Bytes (asked c .args .l .now)
+  l-bytes i = c .before .before .before .before .before .before .before .shared-slice-known2 .given i .fits
+
+  -- what the joint call answers and leaves
+  met :
+      let a = asked c .args in
+      Returned card (a .k .now) (a .l .now) (a .k-digits .now) (a .l-digits .now) (Written (length (joint (pos (scalar (a .k .now))) (pos (scalar (a .l .now))))))
+      (filled (digitsOf P (a .k .now) (a .l .now)) (a .k-digits .now)) (filled (digitsOf Q (a .k .now) (a .l .now)) (a .l-digits .now))
+  met =
+      let a = asked c .args in
+      let p = asked c .pre in
+      written card (a .k .now) (a .l .now) (a .k-digits .now) (a .l-digits .now) (p .0 .0) (omega (arith, p)) (length (joint (pos (scalar (a .k .now))) (pos (scalar (a .l .now)))))
+      (filled (digitsOf P (a .k .now) (a .l .now)) (a .k-digits .now)) (filled (digitsOf Q (a .k .now) (a .l .now)) (a .l-digits .now)) (omega (arith, p)) refl refl refl
+
+  answer : c .joint .result ≡ Written (length (joint (pos (scalar (asked c .args .k .now))) (pos (scalar (asked c .args .l .now)))))
+  answer = c .joint .ensures .0 ∙ sym (met .0)
+
+  k-row : c .joint .last .1 .1 .0 ≡ filled (digitsOf P (asked c .args .k .now) (asked c .args .l .now)) (asked c .args .k-digits .now)
+  k-row = c .joint .ensures .1 .0 ∙ sym (met .1 .0)
+
+  l-row : c .joint .last .1 .1 .1 .0 ≡ filled (digitsOf Q (asked c .args .k .now) (asked c .args .l .now)) (asked c .args .l-digits .now)
+  l-row = c .joint .ensures .1 .1 .0 ∙ sym (met .1 .1 .0)
+
+write-codes-requires : tie.Need-write-codes-requires
+write-codes-requires c κs =
+    let j = c .before .before .before .before .before .before in
+    let a = asked j .args in
+    let p = asked j .pre in
+    asks (a .k .now) (a .l .now) P (a .places) (a .k-digits .now) (j .joint .last .1 .1 .0) (a .k-codes .now) (k-bytes j) (l-bytes j) (p .0 .1) (k-row j) (p .1 .1 .0)
+    (omega (arith, p, j .joint .kept))
+
+write-codes-requires-2 : tie.Need-write-codes-requires-2
+write-codes-requires-2 c κs =
+    let j = c .before .before .before .before .before .before .before .before .before .before .before in
+    let a = asked j .args in
+    let p = asked j .pre in
+    asks (a .k .now) (a .l .now) Q (a .places) (a .l-digits .now) (j .joint .last .1 .1 .1 .0) (a .l-codes .now) (k-bytes j) (l-bytes j) (p .0 .1) (l-row j) (p .1 .1 .1)
+    (omega (arith, p, j .joint .kept))
+
+same-length : tie.Need-same-length
+same-length c = search needs
+
+same-length-2 : tie.Need-same-length-2
+same-length-2 c = search needs
+
+same-length-3 : tie.Need-same-length-3
+same-length-3 c = search needs
+
+same-length-4 : tie.Need-same-length-4
+same-length-4 c = search needs
+
+returns : tie.Need-returns
+returns c =
+    let j = c .before .before .before .before .before .before .before .before .before .before .before .before .before .before in
+    let a = asked j .args in
+    let p = asked j .pre in
+    let kw = c .before .before .before .before .before .before .before .write-codes in
+    let lw = c .before .before .write-codes2 in (
+      answer j,
+      (
+        k-row j,
+        (
+          l-row j,
+          (
+            leaves (a .k .now) (a .l .now) P (a .places) (a .k-digits .now) (j .joint .last .1 .1 .0) (a .k-codes .now) (k-bytes j) (l-bytes j) (p .0 .1) (k-row j) (p .1 .1 .0)
+                (kw .last .1 .1 .0) (kw .ensures),
+            leaves (a .k .now) (a .l .now) Q (a .places) (a .l-digits .now) (j .joint .last .1 .1 .1 .0) (a .l-codes .now) (k-bytes j) (l-bytes j) (p .0 .1) (l-row j) (p .1 .1 .1)
+                (lw .last .1 .1 .0) (lw .ensures),
+          ),
+        ),
+      ),
+    )
+
+pub write-both-spec : {M : Type 1} → statement M
+write-both-spec =
+    tie.close
+    (tie.spec
+    joint-requires
+    write-codes-requires
+    write-codes-requires-2
+    same-length
+    same-length-2
+    same-length-3
+    same-length-4
+    returns)

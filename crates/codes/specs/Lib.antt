@@ -1,0 +1,4 @@
+pub mod Call
+pub mod Promise
+pub mod Samples
+pub mod Body
