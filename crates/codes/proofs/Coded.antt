@@ -27,7 +27,8 @@ use Rattle.forms.specs.Joint.Length.{joint-length}
 use Rattle.forms.specs.Test.{equal, everyDigit}
 use Rattle.codes.specs.Body.{byteCode, byteCodes}
 use Rattle.recode.specs.Call.{filled}
-use Rattle.codes.specs.Call.{digitsOf, codesOf, coded}
+use Rattle.recode.specs.Call.Joint.{digitsOf}
+use Rattle.codes.specs.Call.{codesOf, coded}
 
 pub coded-none : (digits out : List ℕ) (n : ℕ) → out ≡ replicate n 0 → out ≡ coded (byteCodes digits 0) out
 unfolding byteCodes below

@@ -13,8 +13,9 @@ use Rattle.digits.specs.Limits.{Limits}
 use Rattle.digits.specs.Missed.{missed}
 use Rattle.digits.specs.Scalar.{scalar, sized}
 use Rattle.digits.specs.Two.{Two, other, of}
-use Rattle.forms.specs.Codes.{Leaves, remainder, Held, digitBy, digits, codes}
+use Rattle.forms.specs.Codes.{Leaves, remainder, Held, digitBy, codes}
 use Rattle.recode.specs.Call.{roomy, left, jointAnswer, JointOf}
+use Rattle.recode.specs.Call.Joint.{digitsOf}
 use Rattle.recode.specs.declared.answer.Recoded.{Recoded}
 use Rattle.recode.specs.declared.answer.Recoded.the-variants.{BadScalar, BadWindow, NoRoom, Written}
 
@@ -38,10 +39,7 @@ unfoldable pub codesAnswer : Limits → List ℕ → List ℕ → ℕ → ℕ �
 codesAnswer limits s t places places′ room room′ =
     ifRoomy (roomy (max (length s) (length t)) room && roomy (max (length s) (length t)) room′) (jointAnswer limits s t places places′)
 
--- the digits of one row of the joint form of two scalars, and their codes
-abbrev pub digitsOf : Two → List ℕ → List ℕ → List ℤ
-digitsOf r s t = digits (pos (scalar s)) (pos (scalar t)) r
-
+-- the codes of one row of the joint form of two scalars
 abbrev pub codesOf : Two → List ℕ → List ℕ → List ℕ
 codesOf r s t = codes (pos (scalar s)) (pos (scalar t)) r
 

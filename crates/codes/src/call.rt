@@ -10,8 +10,9 @@ ghost use Rattle.digits.specs.Scalar.{sized};
 ghost use Rattle.digits.specs.Two.{P, Q};
 ghost use Rattle.forms.specs.Joint.{joint};
 ghost use Rattle.recode.specs.Call.{number, filled};
+ghost use Rattle.recode.specs.Call.Joint.{digitsOf};
 ghost use Rattle.recode.specs.declared.answer.Recoded.the-variants.{Written};
-ghost use Rattle.codes.specs.Call.{codesQuestion, codesAnswer, digitsOf, codesOf, coded, codesDigits, codesBuffer, CodesPromised};
+ghost use Rattle.codes.specs.Call.{codesQuestion, codesAnswer, codesOf, coded, codesDigits, codesBuffer, CodesPromised};
 use recode::Recoded;
 
 // The places that a digit buffer, or a code buffer, must have for scalars of so many bytes.

@@ -13,9 +13,10 @@ use Rattle.digits.specs.Scalar.Sized.{both}
 use Rattle.digits.specs.Two.{P, Q}
 use Rattle.forms.specs.Joint.{joint}
 use Rattle.recode.specs.Call.{number, roomy, filled, left, jointAnswer}
+use Rattle.recode.specs.Call.Joint.{digitsOf}
 use Rattle.recode.specs.declared.answer.Recoded.{Recoded}
 use Rattle.recode.specs.declared.answer.Recoded.the-variants.{BadScalar, NoRoom, Written}
-use Rattle.codes.specs.Call.{codesQuestion, ifRoomy, codesAnswer, digitsOf, codesOf, coded, leftCodes, codesDigits, codesBuffer, CodesPromised}
+use Rattle.codes.specs.Call.{codesQuestion, ifRoomy, codesAnswer, codesOf, coded, leftCodes, codesDigits, codesBuffer, CodesPromised}
 use Rattle.codes.specs.Call.Standing.{codes-question, codes-promised}
 
 -- whether each of four buffers has so much room

@@ -19,10 +19,11 @@ use Rattle.forms.specs.Joint.Value.{joint-small}
 use Rattle.forms.specs.Promise.{joint-value, joint-keeps, joint-top, remainder-is, codes-held, codes-digits}
 use Rattle.forms.specs.Test.{rows}
 use Rattle.recode.specs.Call.{number, roomy, filled, left, jointAnswer, jointBuffer}
+use Rattle.recode.specs.Call.Joint.{digitsOf}
 use Rattle.recode.specs.Promise.{joint-written, joint-only}
 use Rattle.recode.specs.declared.answer.Recoded.{Recoded}
 use Rattle.recode.specs.declared.answer.Recoded.the-variants.{BadScalar, BadWindow, NoRoom, Written}
-use Rattle.codes.specs.Call.{codesQuestion, ifRoomy, codesAnswer, digitsOf, codesOf, coded, leftCodes, codesDigits, codesBuffer, CodesOf, CodesPromised}
+use Rattle.codes.specs.Call.{codesQuestion, ifRoomy, codesAnswer, codesOf, coded, leftCodes, codesDigits, codesBuffer, CodesOf, CodesPromised}
 
 -- the codes of a joint form are as promised
 codes-are : (k l : ℤ) → CodesOf k l (digits k l) (codes k l)

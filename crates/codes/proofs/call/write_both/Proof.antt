@@ -9,9 +9,8 @@ use Rattle.digits.specs.Scalar.{Bytes, scalar}
 use Rattle.digits.specs.Two.{P, Q}
 use Rattle.forms.specs.Joint.{joint}
 use Rattle.recode.specs.Call.{filled}
-use Rattle.recode.specs.Call.Joint.{Returned, written}
+use Rattle.recode.specs.Call.Joint.{digitsOf, Returned, written}
 use Rattle.recode.specs.declared.answer.Recoded.the-variants.{Written}
-use Rattle.codes.specs.Call.{digitsOf}
 use Rattle.codes.proofs.Coded.{asks, leaves}
 use Rattle.codes.proofs.call.write_both.Statement.{statement}
 use Rattle.codes.proofs.call.write_both.Tie as tie
