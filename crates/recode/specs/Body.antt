@@ -1,2 +1,3 @@
 -- What the private contracts of the code speak of.
 pub mod Remainder
+pub mod Table

@@ -1,7 +1,7 @@
 ghost use mathlib.Core.Path.{_≡_};
 ghost use mathlib.Core.Bool.{true, false};
 ghost use mathlib.Core.Logic.{_⊎_};
-ghost use Prim.Native.Nat.{_+_, _*_, _/_, _^_, _<_, _≤_, max};
+ghost use Prim.Native.Nat.{_+_, _*_, _/_, _%_, _^_, _<_, _≤_, max};
 ghost use lib.IntN.{pos};
 ghost use lib.ListN.{length, replicate};
 ghost use Rattle.digits.specs.Column;
@@ -11,23 +11,45 @@ ghost use Rattle.digits.specs.Scalar.{little, bitLength};
 ghost use Rattle.digits.specs.Two.{P, Q, two};
 ghost use Rattle.forms.specs.Joint;
 ghost use Rattle.recode.specs.Body.Remainder.{Held};
+ghost use Rattle.recode.specs.Body.Table.{DigitTable};
 ghost use Rattle.recode.specs.Call.{number, jointQuestion, jointAnswer, jointBuffer, JointPromised, filled};
 use crate::answer::Recoded;
 use crate::low::Low;
 
-// Whether x is 3 or 5 modulo 8 beside a y that is 2 modulo 4.
-fn turns(x: u16, y: u16) -> bool
-    ensures { λ r. ⌜ r ≡ Joint.turns (pos x) (pos y) ⌝ }
+// The joint digits: a line for each remainder by eight of a number, an entry for each that the other number can have.
+#[rattlefmt::skip]
+const DIGITS: [i8; 64] = [
+// beside 0   1   2   3   4   5   6   7
+          0,  0,  0,  0,  0,  0,  0,  0, // of 0
+          1,  1,  1,  1,  1,  1,  1,  1, // of 1
+          0,  0,  0,  0,  0,  0,  0,  0, // of 2
+         -1, -1,  1, -1, -1, -1,  1, -1, // of 3: the sign turns beside 2 and 6
+          0,  0,  0,  0,  0,  0,  0,  0, // of 4
+          1,  1, -1,  1,  1,  1, -1,  1, // of 5: the sign turns beside 2 and 6
+          0,  0,  0,  0,  0,  0,  0,  0, // of 6
+         -1, -1, -1, -1, -1, -1, -1, -1, // of 7
+];
+
+// The table of the joint digits. A constant array is laid out anew wherever it is read, so the columns share one.
+fn digit_table() -> [i8; 64]
+    ensures { λ r. ⌜ DigitTable r ⌝ }
 {
-    ((x % 8 == 3) | (x % 8 == 5)) & (y % 4 == 2)
+    DIGITS
 }
 
-// The digit of x beside y in a joint column, without a branch on what is chance.
-fn joint_digit(x: u16, y: u16) -> i16
+// Where the table has the digit of x beside y: three low bits of each, joined.
+fn index_of(x: u16, y: u16) -> usize
+    ensures { λ r. ⌜ r ≡ 8 * (x % 8) + y % 8 ⌝ }
+{
+    ((x as usize & 7) << 3) | (y as usize & 7)
+}
+
+// The digit of x beside y in a joint column, from the table.
+fn joint_digit(table: &[i8; 64], x: u16, y: u16) -> i16
+    requires { ⌜ DigitTable (now table) ⌝ }
     ensures { λ r. ⌜ r ≡ Joint.digit (pos x) (pos y) ⌝ }
 {
-    let plain = (x % 2) as i16 * (2 - (x % 4) as i16);
-    if turns(x, y) { -plain } else { plain }
+    table[index_of(x, y)] as i16
 }
 
 // Whether nothing is left of either number.
@@ -68,6 +90,7 @@ fn write_columns(
     let mut k_low = Low::new();
     let mut l_low = Low::new();
     let mut place = 0;
+    let table = digit_table();
     loop {
         let k_full = k_low.filled(k);
         let l_full = l_low.filled(l);
@@ -85,14 +108,12 @@ fn write_columns(
         }
         let x = k_odd.lowest();
         let y = l_odd.lowest();
-        let k_digit = joint_digit(x, y);
-        let l_digit = joint_digit(y, x);
+        let k_digit = joint_digit(&table, x, y);
+        let l_digit = joint_digit(&table, y, x);
+        k_low = k_odd.less(k_digit);
+        l_low = l_odd.less(l_digit);
         k_out[place] = digits::byte_of(k_digit as i8);
         l_out[place] = digits::byte_of(l_digit as i8);
-        let k_next = k_odd.less(k_digit);
-        let l_next = l_odd.less(l_digit);
-        k_low = k_next;
-        l_low = l_next;
         place += 1;
     }
 }

@@ -24,23 +24,23 @@ use Rattle.recode.proofs.columns.write_columns.Statement.{statement}
 use Rattle.recode.proofs.columns.write_columns.Tie as tie
 
 abbrev Inv-loop : tie.InvT-loop
-Inv-loop k l k-used l-used k-out₀ l-out₀ k-low₀ l-low₀ place₀ k-out l-out k-low l-low place =
+Inv-loop k l k-used l-used k-out₀ l-out₀ k-low₀ l-low₀ place₀ table k-out l-out k-low l-low place =
     State k l k-out₀ k-out l-out k-low l-low place
 
 abbrev μ-loop : tie.MeasureT-loop
-μ-loop k l k-used l-used k-out₀ l-out₀ k-low₀ l-low₀ place₀ k-out l-out k-low l-low place = length k-out - place
+μ-loop k l k-used l-used k-out₀ l-out₀ k-low₀ l-low₀ place₀ table k-out l-out k-low l-low place = length k-out - place
 
 -- the arguments, and what holds throughout the loop
-abbrev asked : tie.After-new2 Inv-loop μ-loop → tie.Start Inv-loop μ-loop
-asked c = c .before .before .before .before .before .before
+abbrev asked : tie.After-digit-table Inv-loop μ-loop → tie.Start Inv-loop μ-loop
+asked c = c .before .before .before .before .before .before .before
 
-module _ (c : tie.After-new2 Inv-loop μ-loop) where
+module _ (c : tie.After-digit-table Inv-loop μ-loop) where
   given : Given (asked c .args .k .now) (asked c .args .l .now) (asked c .args .k-used) (asked c .args .l-used) (asked c .args .k-out .now) (asked c .args .l-out .now)
   given =
       let p = asked c .pre in
       record {
-        k-bytes = λ i. c .before .before .before .before .before .shared-slice-known .given i .fits;
-        l-bytes = λ i. c .before .before .before .before .shared-slice-known2 .given i .fits;
+        k-bytes = λ i. c .before .before .before .before .before .before .shared-slice-known .given i .fits;
+        l-bytes = λ i. c .before .before .before .before .before .shared-slice-known2 .given i .fits;
         k-in-use = p .0 .0;
         l-in-use = p .0 .1;
         cleared = rows (λ (r : Two). of (asked c .args .k-out .now) (asked c .args .l-out .now) r ≡ replicate (length (asked c .args .k-out .now)) 0) (p .1 .0 .0, p .1 .0 .1);
@@ -90,8 +90,12 @@ new-requires c κs = search needs
 new-requires-2 : tie.Need-new-requires-2 Inv-loop μ-loop
 new-requires-2 c κs = search needs
 
+digit-table-requires : tie.Need-digit-table-requires Inv-loop μ-loop
+digit-table-requires c κs = search needs
+
 loop-holds : tie.Need-loop-holds Inv-loop μ-loop
-loop-holds c = begin (given c) (c .before .new .result) (c .new2 .result) (c .before .new .ensures) (c .new2 .ensures)
+loop-holds c =
+    let n = c .before in begin (given c) (n .before .new .result) (n .new2 .result) (n .before .new .ensures) (n .new2 .ensures)
 
 filled-requires : tie.Need-filled-requires Inv-loop μ-loop
 filled-requires c κs = c .loop .inv .k-held
@@ -177,63 +181,74 @@ lowest-requires c κs = search needs
 lowest-requires-2 : tie.Need-lowest-requires-2 Inv-loop μ-loop
 lowest-requires-2 c κs = search needs
 
+-- the table, made before the loop, serves both digits of a column
+abbrev lent : tie.After-table Inv-loop μ-loop → tie.After-shifted2 Inv-loop μ-loop
+lent c = c .before .before .before .before .before
+
 joint-digit-requires : tie.Need-joint-digit-requires Inv-loop μ-loop
-joint-digit-requires c κs = search needs
+joint-digit-requires c κs = turned (lent c) .before .digit-table .ensures
 
 joint-digit-requires-2 : tie.Need-joint-digit-requires-2 Inv-loop μ-loop
-joint-digit-requires-2 c κs = search needs
+joint-digit-requires-2 c κs = turned (lent (c .before .before)) .before .digit-table .ensures
 
 -- the two digits of a column
+abbrev first : tie.After-joint-digit2 Inv-loop μ-loop → tie.After-joint-digit Inv-loop μ-loop
+first c = c .before .before
+
 abbrev shifted-on : tie.After-joint-digit2 Inv-loop μ-loop → tie.After-shifted2 Inv-loop μ-loop
-shifted-on c = c .before .before .before .before .before .before
+shifted-on c = lent (first c .before)
 
 module _ (c : tie.After-joint-digit2 Inv-loop μ-loop) where
-  k-digit : c .before .joint-digit .result ≡ digit (pos (shifted-on c .before .shifted .result .low % 64)) (pos (shifted-on c .shifted2 .result .low % 64))
-  k-digit = c .before .joint-digit .ensures ∙ ap₂ (λ (x y : ℕ). digit (pos x) (pos y)) (c .before .before .before .lowest .ensures) (c .before .before .lowest2 .ensures)
+  k-digit : first c .joint-digit .result ≡ digit (pos (shifted-on c .before .shifted .result .low % 64)) (pos (shifted-on c .shifted2 .result .low % 64))
+  k-digit =
+      let r = first c .before .before in
+      first c .joint-digit .ensures ∙ ap₂ (λ (x y : ℕ). digit (pos x) (pos y)) (r .before .lowest .ensures) (r .lowest2 .ensures)
 
   l-digit : c .joint-digit2 .result ≡ digit (pos (shifted-on c .shifted2 .result .low % 64)) (pos (shifted-on c .before .shifted .result .low % 64))
-  l-digit = c .joint-digit2 .ensures ∙ ap₂ (λ (x y : ℕ). digit (pos x) (pos y)) (c .before .before .lowest2 .ensures) (c .before .before .before .lowest .ensures)
+  l-digit =
+      let r = first c .before .before in
+      c .joint-digit2 .ensures ∙ ap₂ (λ (x y : ℕ). digit (pos x) (pos y)) (r .lowest2 .ensures) (r .before .lowest .ensures)
 
-  k-tiny : natAbs (c .before .joint-digit .result) ≤ 1
-  k-tiny = small (shifted-on c .before .shifted .result) (shifted-on c .shifted2 .result) (c .before .joint-digit .result) k-digit
+  k-tiny : natAbs (first c .joint-digit .result) ≤ 1
+  k-tiny = small (shifted-on c .before .shifted .result) (shifted-on c .shifted2 .result) (first c .joint-digit .result) k-digit
 
   l-tiny : natAbs (c .joint-digit2 .result) ≤ 1
   l-tiny = small (shifted-on c .shifted2 .result) (shifted-on c .before .shifted .result) (c .joint-digit2 .result) l-digit
 
   enough : (3 ≤ shifted-on c .before .shifted .result .bits) × (3 ≤ shifted-on c .shifted2 .result .bits)
-  enough = omega (arith, c .before .before .before .before .if2 .left, odd (shifted-on c) .level)
+  enough = omega (arith, first c .before .before .before .before .if2 .left, odd (shifted-on c) .level)
+
+less-requires : tie.Need-less-requires Inv-loop μ-loop
+less-requires c κs =
+    let s = shifted-on c .before .shifted .result in
+    less-asks (first c .joint-digit .result) (k-tiny c) s (odd (shifted-on c) .k-held) (enough c .0)
+    (halved s (shifted-on c .shifted2 .result) (first c .joint-digit .result) (k-digit c))
+
+less-requires-2 : tie.Need-less-requires-2 Inv-loop μ-loop
+less-requires-2 c κs =
+    let d = c .before in
+    let t = shifted-on d .shifted2 .result in
+    less-asks (d .joint-digit2 .result) (l-tiny d) t (odd (shifted-on d) .l-held) (enough d .1)
+    (halved t (shifted-on d .before .shifted .result) (d .joint-digit2 .result) (l-digit d))
 
 cast-byte-of : tie.Need-cast-byte-of Inv-loop μ-loop
-cast-byte-of c = cast-fits (c .before .joint-digit .result) (k-tiny c)
+cast-byte-of c =
+    let d = c .before .before in cast-fits (first d .joint-digit .result) (k-tiny d)
 
 byte-of-requires : tie.Need-byte-of-requires Inv-loop μ-loop
 byte-of-requires c κs = search needs
 
 slice-write-k-out : tie.Need-slice-write-k-out Inv-loop μ-loop
-slice-write-k-out c = let h = shifted-on (c .before) in omega (arith, within h, odd h .k-long)
+slice-write-k-out c = let h = shifted-on (c .before .before .before) in omega (arith, within h, odd h .k-long)
 
 cast-byte-of-2 : tie.Need-cast-byte-of-2 Inv-loop μ-loop
-cast-byte-of-2 c = cast-fits (c .before .joint-digit2 .result) (l-tiny (c .before))
+cast-byte-of-2 c = let d = c .before .before .before in cast-fits (d .joint-digit2 .result) (l-tiny d)
 
 byte-of-requires-2 : tie.Need-byte-of-requires-2 Inv-loop μ-loop
 byte-of-requires-2 c κs = search needs
 
 slice-write-l-out : tie.Need-slice-write-l-out Inv-loop μ-loop
-slice-write-l-out c = let h = shifted-on (c .before .before) in omega (arith, within h, odd h .l-long)
-
-less-requires : tie.Need-less-requires Inv-loop μ-loop
-less-requires c κs =
-    let d = c .before .before in
-    let s = shifted-on d .before .shifted .result in
-    less-asks (d .before .joint-digit .result) (k-tiny d) s (odd (shifted-on d) .k-held) (enough d .0)
-    (halved s (shifted-on d .shifted2 .result) (d .before .joint-digit .result) (k-digit d))
-
-less-requires-2 : tie.Need-less-requires-2 Inv-loop μ-loop
-less-requires-2 c κs =
-    let d = c .before .before .before in
-    let t = shifted-on d .shifted2 .result in
-    less-asks (d .joint-digit2 .result) (l-tiny d) t (odd (shifted-on d) .l-held) (enough d .1)
-    (halved t (shifted-on d .before .shifted .result) (d .joint-digit2 .result) (l-digit d))
+slice-write-l-out c = let h = shifted-on (c .before .before .before .before) in omega (arith, within h, odd h .l-long)
 
 add-place-2 : tie.Need-add-place-2 Inv-loop μ-loop
 add-place-2 c =
@@ -245,17 +260,19 @@ loop-less-2 c =
 
 loop-again-2 : tie.Need-loop-again-2 Inv-loop μ-loop
 loop-again-2 c =
-    let d = c .before .before .before .before in
+    let n = c .before .before in
+    let d = n .before .before in
     let h = shifted-on d in
     let s = h .before .shifted .result in
     let t = h .shifted2 .result in
-    stored (given (turned h .before)) s t (some h) (odd h) (enough d .0) (enough d .1)
-    (d .before .joint-digit .result) (d .joint-digit2 .result) (k-digit d) (l-digit d)
-    (c .before .before .before .byte-of .result) (c .before .before .byte-of2 .result)
-    (c .before .before .before .byte-of .ensures ∙ ap byteOf (as-byte (d .before .joint-digit .result) (k-tiny d)))
-    (c .before .before .byte-of2 .ensures ∙ ap byteOf (as-byte (d .joint-digit2 .result) (l-tiny d)))
-    (c .before .less .result) (c .less2 .result) (less-says (d .before .joint-digit .result) (k-tiny d) s (c .before .less .result) (c .before .less .ensures))
-    (less-says (d .joint-digit2 .result) (l-tiny d) t (c .less2 .result) (c .less2 .ensures))
+    let x = first d .joint-digit .result in
+    let y = d .joint-digit2 .result in
+    stored (given (turned h .before)) s t (some h) (odd h) (enough d .0) (enough d .1) x y (k-digit d) (l-digit d)
+    (c .before .byte-of .result) (c .byte-of2 .result)
+    (c .before .byte-of .ensures ∙ ap byteOf (as-byte x (k-tiny d)))
+    (c .byte-of2 .ensures ∙ ap byteOf (as-byte y (l-tiny d)))
+    (n .before .less .result) (n .less2 .result) (less-says x (k-tiny d) s (n .before .less .result) (n .before .less .ensures))
+    (less-says y (l-tiny d) t (n .less2 .result) (n .less2 .ensures))
 
 pub write-columns-spec : {M : Type 1} → statement M
 write-columns-spec =
@@ -265,6 +282,7 @@ write-columns-spec =
     μ-loop
     new-requires
     new-requires-2
+    digit-table-requires
     loop-holds
     filled-requires
     filled-requires-2
@@ -283,14 +301,14 @@ write-columns-spec =
     lowest-requires-2
     joint-digit-requires
     joint-digit-requires-2
+    less-requires
+    less-requires-2
     cast-byte-of
     byte-of-requires
     slice-write-k-out
     cast-byte-of-2
     byte-of-requires-2
     slice-write-l-out
-    less-requires
-    less-requires-2
     add-place-2
     loop-less-2
     loop-again-2)
