@@ -4,6 +4,7 @@ pub mod Window
 pub mod Laid
 pub mod Prefix
 pub mod LowRemainder
+pub mod MachineDigit
 pub mod RowTurns
 pub mod RowLoop
 pub mod JointTurns

@@ -8,9 +8,9 @@ use lib.ListN.{getD}
 use mir.Syntax.{w8, w16}
 use mir.Val.{SFits, toZ, ofZ}
 use mir.Facts.{toZ-ofZ, sfits-widen}
-use Rattle.digits.specs.Integer.Parts.{size, mag-size}
 use Rattle.forms.specs.Joint.{digit}
 use Rattle.forms.specs.Joint.Digit.{digit-fits}
+use Rattle.recode.proofs.MachineDigit.{fits-byte}
 use Rattle.recode.proofs.columns.joint_digit.Statement.{statement}
 use Rattle.recode.proofs.columns.joint_digit.Tie as tie
 
@@ -22,8 +22,7 @@ module _ (c : tie.After-result) where
   -- it fits the type of an entry, and so that of the result
   fits : SFits w8 (wanted c)
   fits =
-      let a = c .before .before .args in
-      record { sfits = omega (arith, size (wanted c), mag-size (wanted c), digit-fits (pos (a .x)) (pos (a .y))) }
+      let a = c .before .before .args in fits-byte (wanted c) (omega (arith, digit-fits (pos (a .x)) (pos (a .y))))
 
   wide : SFits w16 (wanted c)
   wide = sfits-widen tt fits

@@ -1,24 +1,18 @@
 -- `write_columns` meets its contract. The loop's invariant: the columns that stand in the buffers, followed by those of the
 -- remainders, are all columns (JointLoop). The measure is the number of places left.
-use mathlib.Core.Path.{_≡_, sym, ap, ap₂, subst, _∙_}
+use mathlib.Core.Path.{_≡_, sym, ap, ap₂, _∙_}
 use Prim.Native.Nat.{ℕ, _+_, _-_, _%_, _≤_, _<_}
 use native.Mathlib.Omega.{arith}
 use borrow.Author.Needs.{needs}
-use lib.IntN.{ℤ, pos, natAbs, _-ℤ_}
+use lib.IntN.{pos, natAbs}
 use lib.ListN.{length, replicate, length-set, length-replicate}
-use mir.Syntax.{w8, w16}
-use mir.Val.{SFits, toZ, ofZ}
-use mir.Facts.{toZ-ofZ}
 use Rattle.digits.specs.Byte.{byteOf}
-use Rattle.digits.specs.Integer.{half}
-use Rattle.digits.specs.Integer.Parts.{size, mag-size}
-use Rattle.digits.specs.Integer.Machine.{read-back}
 use Rattle.digits.specs.Two.{Two, P, Q, of}
 use Rattle.forms.specs.Joint.{digit}
 use Rattle.forms.specs.Test.{rows}
 use Rattle.recode.specs.declared.low.Low.{Low}
-use Rattle.recode.specs.Body.Remainder.{Held}
 use Rattle.recode.proofs.LowRemainder.{Without}
+use Rattle.recode.proofs.MachineDigit.{cast-fits, as-byte, less-asks, less-says}
 use Rattle.recode.proofs.JointLoop.{Given, Going, State, begin, refill, finish, going-on, skipped, inside, small, halved, stored}
 use Rattle.recode.proofs.columns.write_columns.Statement.{statement}
 use Rattle.recode.proofs.columns.write_columns.Tie as tie
@@ -59,30 +53,6 @@ full c =
     let a = c .before .before in
     refill (given (a .before)) (a .loop .k-low) (c .before .filled .result) (a .loop .l-low) (c .filled2 .result) (c .before .filled .ensures .0)
     (c .before .filled .ensures .1 .0) (c .filled2 .ensures .0) (c .filled2 .ensures .1 .0) (omega (arith, a .loop .inv .level)) (a .loop .inv)
-
--- a digit of −1, 0 or 1, which the machine reads back as it is
-module _ (d : ℤ) (h : natAbs d ≤ 1) where
-  same : toZ w16 (ofZ w16 d) ≡ d
-  same = read-back d (omega (arith, size d))
-
-  fits-byte : SFits w8 d
-  fits-byte = record { sfits = omega (arith, size d, mag-size d) }
-
-  cast-fits : SFits w8 (toZ w16 (ofZ w16 d))
-  cast-fits = subst (SFits w8) (sym same) fits-byte
-
-  as-byte : toZ w8 (ofZ w8 (toZ w16 (ofZ w16 d))) ≡ d
-  as-byte = ap (λ (x : ℤ). toZ w8 (ofZ w8 x)) same ∙ toZ-ofZ fits-byte
-
-  -- what `less` asks of it, and what it says
-  less-asks : (s : Low) → Held s → 3 ≤ s .bits → (k : ℕ) × (half (pos (s .low) -ℤ d) ≡ pos k)
-      → Held s × ((1 ≤ s .bits) × ((natAbs (toZ w16 (ofZ w16 d)) ≤ 31) × ((k : ℕ) × (half (pos (s .low) -ℤ toZ w16 (ofZ w16 d)) ≡ pos k))))
-  less-asks s g b k =
-      (g, (omega arith, subst (λ (x : ℤ). (natAbs x ≤ 31) × ((k : ℕ) × (half (pos (s .low) -ℤ x) ≡ pos k))) (sym same) (omega arith, k)))
-
-  less-says : (s t : Low) → Held t × ((t .at ≡ s .at) × ((t .bits + 1 ≡ s .bits) × (pos (t .low) ≡ half (pos (s .low) -ℤ toZ w16 (ofZ w16 d)))))
-      → Held t × ((t .at ≡ s .at) × ((t .bits + 1 ≡ s .bits) × (pos (t .low) ≡ half (pos (s .low) -ℤ d))))
-  less-says s t e = (e .0, (e .1 .0, (e .1 .1 .0, e .1 .1 .1 ∙ ap (λ (x : ℤ). half (pos (s .low) -ℤ x)) same)))
 
 new-requires : tie.Need-new-requires Inv-loop μ-loop
 new-requires c κs = search needs
@@ -209,11 +179,11 @@ module _ (c : tie.After-joint-digit2 Inv-loop μ-loop) where
       let r = first c .before .before in
       c .joint-digit2 .ensures ∙ ap₂ (λ (x y : ℕ). digit (pos x) (pos y)) (r .lowest2 .ensures) (r .before .lowest .ensures)
 
-  k-tiny : natAbs (first c .joint-digit .result) ≤ 1
-  k-tiny = small (shifted-on c .before .shifted .result) (shifted-on c .shifted2 .result) (first c .joint-digit .result) k-digit
+  k-tiny : natAbs (first c .joint-digit .result) ≤ 31
+  k-tiny = omega (arith, small (shifted-on c .before .shifted .result) (shifted-on c .shifted2 .result) (first c .joint-digit .result) k-digit)
 
-  l-tiny : natAbs (c .joint-digit2 .result) ≤ 1
-  l-tiny = small (shifted-on c .shifted2 .result) (shifted-on c .before .shifted .result) (c .joint-digit2 .result) l-digit
+  l-tiny : natAbs (c .joint-digit2 .result) ≤ 31
+  l-tiny = omega (arith, small (shifted-on c .shifted2 .result) (shifted-on c .before .shifted .result) (c .joint-digit2 .result) l-digit)
 
   enough : (3 ≤ shifted-on c .before .shifted .result .bits) × (3 ≤ shifted-on c .shifted2 .result .bits)
   enough = omega (arith, first c .before .before .before .before .if2 .left, odd (shifted-on c) .level)
@@ -221,14 +191,14 @@ module _ (c : tie.After-joint-digit2 Inv-loop μ-loop) where
 less-requires : tie.Need-less-requires Inv-loop μ-loop
 less-requires c κs =
     let s = shifted-on c .before .shifted .result in
-    less-asks (first c .joint-digit .result) (k-tiny c) s (odd (shifted-on c) .k-held) (enough c .0)
+    less-asks (first c .joint-digit .result) (k-tiny c) s (odd (shifted-on c) .k-held) (omega (arith, enough c .0))
     (halved s (shifted-on c .shifted2 .result) (first c .joint-digit .result) (k-digit c))
 
 less-requires-2 : tie.Need-less-requires-2 Inv-loop μ-loop
 less-requires-2 c κs =
     let d = c .before in
     let t = shifted-on d .shifted2 .result in
-    less-asks (d .joint-digit2 .result) (l-tiny d) t (odd (shifted-on d) .l-held) (enough d .1)
+    less-asks (d .joint-digit2 .result) (l-tiny d) t (odd (shifted-on d) .l-held) (omega (arith, enough d .1))
     (halved t (shifted-on d .before .shifted .result) (d .joint-digit2 .result) (l-digit d))
 
 cast-byte-of : tie.Need-cast-byte-of Inv-loop μ-loop

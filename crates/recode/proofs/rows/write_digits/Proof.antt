@@ -1,21 +1,15 @@
 -- `write_digits` meets its contract. The loop's invariant: what stands in the buffer, followed by the row of the remainder,
 -- is the whole row (RowTurns). The measure is the number of places left.
-use mathlib.Core.Path.{_≡_, sym, ap, subst, _∙_}
+use mathlib.Core.Path.{_≡_, ap, _∙_}
 use Prim.Native.Nat.{ℕ, _+_, _-_, _%_, _≤_, _<_}
 use native.Mathlib.Omega.{arith}
 use borrow.Author.Needs.{needs}
-use lib.IntN.{ℤ, pos, natAbs, _-ℤ_}
+use lib.IntN.{pos, natAbs}
 use lib.ListN.{length, length-set}
-use mir.Syntax.{w8, w16}
-use mir.Val.{SFits, toZ, ofZ}
-use mir.Facts.{toZ-ofZ}
 use Rattle.digits.specs.Byte.{byteOf}
-use Rattle.digits.specs.Integer.{half}
-use Rattle.digits.specs.Integer.Parts.{size, mag-size}
-use Rattle.digits.specs.Integer.Machine.{read-back}
 use Rattle.forms.specs.Row.{digit}
-use Rattle.recode.specs.Body.Remainder.{Held}
 use Rattle.recode.proofs.LowRemainder.{Without, still}
+use Rattle.recode.proofs.MachineDigit.{cast-fits, as-byte, less-asks, less-says}
 use Rattle.recode.proofs.RowLoop.{Given, State, begin, refill, finish, skipped, inside, small, halved, stored, reached}
 use Rattle.recode.proofs.rows.write_digits.Statement.{statement}
 use Rattle.recode.proofs.rows.write_digits.Tie as tie
@@ -135,14 +129,8 @@ module _ (c : tie.After-digit-of Inv-loop μ-loop) where
       let h = c .before .before .before .before in
       small (given (h .before .before .before .before .before .before)) (h .shifted .result) (going-on h) (odd h) enough (c .digit-of .result) low-digit
 
-  same : toZ w16 (ofZ w16 (c .digit-of .result)) ≡ c .digit-of .result
-  same = read-back (c .digit-of .result) (omega (arith, size (c .digit-of .result), tiny))
-
-  fits-byte : SFits w8 (c .digit-of .result)
-  fits-byte = record { sfits = omega (arith, size (c .digit-of .result), mag-size (c .digit-of .result), tiny) }
-
 cast-byte-of : tie.Need-cast-byte-of Inv-loop μ-loop
-cast-byte-of c = subst (SFits w8) (sym (same c)) (fits-byte c)
+cast-byte-of c = cast-fits (c .digit-of .result) (tiny c)
 
 byte-of-requires : tie.Need-byte-of-requires Inv-loop μ-loop
 byte-of-requires c κs = search needs
@@ -156,13 +144,8 @@ less-requires : tie.Need-less-requires Inv-loop μ-loop
 less-requires c κs =
     let d = c .before in
     let h = d .before .before .before .before in
-    let k = halved (given (h .before .before .before .before .before .before)) (h .shifted .result) (going-on h) (odd h) (enough d) (d .digit-of .result) (low-digit d) in (
-      h .shifted .ensures .0,
-      (
-        omega (arith, enough d),
-        subst (λ (x : ℤ). (natAbs x ≤ 31) × ((k : ℕ) × (half (pos (h .shifted .result .low) -ℤ x) ≡ pos k))) (sym (same d)) (tiny d, k),
-      ),
-    )
+    less-asks (d .digit-of .result) (tiny d) (h .shifted .result) (h .shifted .ensures .0) (omega (arith, enough d))
+    (halved (given (h .before .before .before .before .before .before)) (h .shifted .result) (going-on h) (odd h) (enough d) (d .digit-of .result) (low-digit d))
 
 loop-again-2 : tie.Need-loop-again-2 Inv-loop μ-loop
 loop-again-2 c =
@@ -170,9 +153,8 @@ loop-again-2 c =
     let h = d .before .before .before .before in
     stored (given (h .before .before .before .before .before .before)) (h .shifted .result) (going-on h) (odd h) (enough d) (d .digit-of .result) (low-digit d)
     (c .less .result) (c .before .byte-of .result)
-    (c .before .byte-of .ensures ∙ ap byteOf (ap (λ (x : ℤ). toZ w8 (ofZ w8 x)) (same d) ∙ toZ-ofZ (fits-byte d)))
-    (subst (λ (x : ℤ). Held (c .less .result) × ((c .less .result .at ≡ h .shifted .result .at) × ((c .less .result .bits + 1 ≡ h .shifted .result .bits) × (pos (c .less .result .low) ≡ half (pos (h .shifted .result .low) -ℤ x)))))
-    (same d) (c .less .ensures))
+    (c .before .byte-of .ensures ∙ ap byteOf (as-byte (d .digit-of .result) (tiny d)))
+    (less-says (d .digit-of .result) (tiny d) (h .shifted .result) (c .less .result) (c .less .ensures))
 
 add-place-2 : tie.Need-add-place-2 Inv-loop μ-loop
 add-place-2 c =
