@@ -24,6 +24,12 @@ static uint64_t refusal(unsigned number, unsigned line)
     return (uint64_t)number << 32 | line;
 }
 
+/* The length written, and the weight or the additions. */
+static uint64_t written(size_t length, unsigned count)
+{
+    return (uint64_t)count << 16 | length;
+}
+
 static int is_scalar(size_t n)
 {
     return 1 <= n && n <= MOST_BYTES;
@@ -75,7 +81,7 @@ static uint64_t bits_from(const struct bits *b, unsigned at)
 
 /* ---- rows and joint columns ---- */
 
-/* How many places were written, and how many of them are not zero. */
+/* How many places were written, and how many digits of a row, or columns of a joint form, are not zero. */
 struct recoded {
     unsigned places, weight;
 };
@@ -198,6 +204,11 @@ static struct recoded recode_joint(const struct bits *k, const struct bits *l, u
     return recode_columns(k, l, k_digits, l_digits, NULL, NULL);
 }
 
+static uint64_t answer(struct recoded r)
+{
+    return written(r.places, r.weight);
+}
+
 uint64_t peer_row(const uint8_t *scalar, size_t n, uint32_t m, uint8_t *digits, size_t places)
 {
     struct bits b;
@@ -210,7 +221,7 @@ uint64_t peer_row(const uint8_t *scalar, size_t n, uint32_t m, uint8_t *digits, 
         return refusal(3, 0);
     b = bits_of(scalar, n);
     memset(digits, 0, places);
-    return recode_row(&b, m, digits).places;
+    return answer(recode_row(&b, m, digits));
 }
 
 uint64_t peer_joint(const uint8_t *k, size_t kn, const uint8_t *l, size_t ln, uint8_t *k_digits, size_t k_places,
@@ -226,7 +237,7 @@ uint64_t peer_joint(const uint8_t *k, size_t kn, const uint8_t *l, size_t ln, ui
     lb = bits_of(l, ln);
     memset(k_digits, 0, k_places);
     memset(l_digits, 0, l_places);
-    return recode_joint(&kb, &lb, k_digits, l_digits).places;
+    return answer(recode_joint(&kb, &lb, k_digits, l_digits));
 }
 
 uint64_t peer_joint_codes(const uint8_t *k, size_t kn, const uint8_t *l, size_t ln, uint8_t *k_digits, size_t k_places,
@@ -246,7 +257,7 @@ uint64_t peer_joint_codes(const uint8_t *k, size_t kn, const uint8_t *l, size_t 
     memset(l_digits, 0, l_places);
     memset(k_codes, 0, k_room);
     memset(l_codes, 0, l_room);
-    return recode_columns(&kb, &lb, k_digits, l_digits, k_codes, l_codes).places;
+    return answer(recode_columns(&kb, &lb, k_digits, l_digits, k_codes, l_codes));
 }
 
 /* ---- plans ---- */
@@ -432,7 +443,7 @@ static struct recoded recode_plan(struct plan plan, const struct bits *k, const 
     return first;
 }
 
-/* Writes the sheet of a plan and returns its length. */
+/* Writes the sheet of a plan and returns its length and its additions. */
 static uint64_t write_sheet(struct plan plan, const struct bits *k, const struct bits *l, uint8_t *sheet)
 {
     uint8_t k_digits[PLACES] = {0}, l_digits[PLACES] = {0};
@@ -444,7 +455,7 @@ static uint64_t write_sheet(struct plan plan, const struct bits *k, const struct
     p = put_tables(p, plan);
     p = put_places(p, plan.joint, k_digits, l_digits, r.places);
     p = put_letter(p, 'E');
-    return (uint64_t)(p - sheet);
+    return written((size_t)(p - sheet), additions);
 }
 
 uint64_t peer_plan_j(const uint8_t *k, size_t kn, const uint8_t *l, size_t ln, uint8_t *sheet, size_t room)

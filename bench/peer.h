@@ -5,7 +5,10 @@
 #include <stddef.h>
 #include <stdint.h>
 
-/* Each returns the number of the question missed in its high 32 bits; in the low ones the length written, or the reader's line. */
+/*
+ * Each returns the number of the question missed in bits 32 to 63; below them the reader's line, or in bits 16 to 31 the weight or the
+ * additions and in bits 0 to 15 the length.
+ */
 uint64_t peer_row(const uint8_t *scalar, size_t n, uint32_t m, uint8_t *digits, size_t places);
 uint64_t peer_joint(const uint8_t *k, size_t kn, const uint8_t *l, size_t ln, uint8_t *k_digits, size_t k_places,
                     uint8_t *l_digits, size_t l_places);

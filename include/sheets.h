@@ -6,9 +6,11 @@
  * Digits are one byte each in two's complement, the least significant place (place 0) first; a digit buffer may be read as int8_t.
  * Sheets are ASCII lines, each ended by a line feed, with no byte 0 behind the last.
  *
- * Every call returns 64 bits. The high half, sheets_number, is the number of the question missed, 0 where none is. The low half,
- * sheets_length, is the length written, 0 where a question is missed. For sheets_read it is the line at fault, sheets_line, 0 where the
- * sheet is accepted. Questions are asked in the order given at each call, and the first one missed is the answer:
+ * Every call returns 64 bits. Bits 32 to 63, sheets_number, are the number of the question missed, 0 where none is. Below them a call
+ * that writes has two numbers, both 0 where a question is missed: in bits 0 to 15, sheets_length, the length written; in bits 16 to 31 for
+ * a row or a joint form, sheets_weight, how many of its digits, or of its columns, are not zero, and for a sheet, sheets_additions, its
+ * additions, those that fill the table included. sheets_read has in bits 0 to 31, sheets_line, the line at fault, 0 where the sheet is
+ * accepted. Questions are asked in the order given at each call, and the first one missed is the answer:
  *
  *    1   has each scalar 1 to 66 bytes?
  *    2   is each window odd, 1 to 31?
@@ -37,14 +39,14 @@ extern "C" {
 #define SHEETS_BYTES 16384
 
 /*
- * The row of a scalar for the window m. Questions 1, 2, 3. The length is the number of places, at most 529; the places above it hold
- * 0, up to the end of the buffer.
+ * The row of a scalar for the window m. Questions 1, 2, 3. The length is the number of places, at most 529, and the weight the number of
+ * digits that are not 0; the places above the length hold 0, up to the end of the buffer.
  */
 uint64_t sheets_row(const uint8_t *scalar, size_t n, uint32_t m, uint8_t *digits, size_t places);
 
 /*
- * The joint sparse form of k and l, a row into each buffer. Questions 1, 3. The length is the number of columns, at most 529; in both
- * buffers the places above it hold 0.
+ * The joint sparse form of k and l, a row into each buffer. Questions 1, 3. The length is the number of columns, at most 529, and the
+ * weight the number of columns of which a digit is not 0; in both buffers the places above the length hold 0.
  */
 uint64_t sheets_joint(const uint8_t *k, size_t kn, const uint8_t *l, size_t ln, uint8_t *k_digits, size_t k_places, uint8_t *l_digits,
                       size_t l_places);
@@ -59,8 +61,8 @@ uint64_t sheets_joint_codes(const uint8_t *k, size_t kn, const uint8_t *l, size_
                             uint8_t *l_digits, size_t l_places, uint8_t *k_codes, size_t k_room, uint8_t *l_codes, size_t l_room);
 
 /*
- * The sheet of plan J. Questions 1, 3. The length is the sheet's, in bytes, at most 16,384; the bytes behind it stay as lent. So too
- * for the next two calls.
+ * The sheet of plan J. Questions 1, 3. The length is the sheet's, in bytes, at most 16,384, and the additions are those that its header
+ * states; the bytes behind it stay as lent. So too for the next two calls.
  */
 uint64_t sheets_plan_j(const uint8_t *k, size_t kn, const uint8_t *l, size_t ln, uint8_t *sheet, size_t room);
 
@@ -88,9 +90,11 @@ uint64_t sheets_cheapest(const uint8_t *k, size_t kn, const uint8_t *l, size_t l
  */
 uint64_t sheets_read(const uint8_t *sheet, size_t n);
 
-/* The two halves of an answer. */
+/* The parts of an answer. */
 static inline uint32_t sheets_number(uint64_t answer) { return (uint32_t)(answer >> 32); }
-static inline uint32_t sheets_length(uint64_t answer) { return (uint32_t)(answer & 0xffffffffu); }
+static inline uint32_t sheets_length(uint64_t answer) { return (uint32_t)(answer & 0xffffu); }
+static inline uint32_t sheets_weight(uint64_t answer) { return (uint32_t)((answer >> 16) & 0xffffu); }
+static inline uint32_t sheets_additions(uint64_t answer) { return (uint32_t)((answer >> 16) & 0xffffu); }
 static inline uint32_t sheets_line(uint64_t answer) { return (uint32_t)(answer & 0xffffffffu); }
 
 #ifdef __cplusplus

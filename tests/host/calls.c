@@ -1,6 +1,6 @@
 /*
  * Calls every function of sheets.h with good and bad input, and checks the answers and every byte of the buffers: against the samples
- * of the scope document, and for other scalars by reading the digits back.
+ * of the scope document, and for other scalars by reading the digits back and counting those that are not 0.
  */
 #include "sheets.h"
 
@@ -22,6 +22,50 @@ static void check(int met, const char *what, int line)
 }
 
 #define CHECK(fact) check((fact), #fact, __LINE__)
+
+/* ---- answers ---- */
+
+/* An answer that is to have this length, and this weight or these additions: every bit of it, and each part by its shift and its mask. */
+static void written(uint64_t answer, size_t length, size_t count, int line)
+{
+    check(answer == ((uint64_t)count << 16 | length), "the whole answer", line);
+    check(sheets_number(answer) == 0 && answer >> 32 == 0, "no question is missed", line);
+    check(sheets_length(answer) == length && (answer & 0xffff) == length, "the length", line);
+    check(sheets_weight(answer) == count && sheets_additions(answer) == count, "the weight or the additions", line);
+    check((answer >> 16 & 0xffff) == count, "the weight or the additions, in their bits", line);
+}
+
+/* The length that is answered, or the room where it is more, which `written` then refuses. */
+static size_t length_within(uint64_t answer, size_t room)
+{
+    size_t length = sheets_length(answer);
+    return length < room ? length : room;
+}
+
+/* An answer that is to be a refusal by a call that writes: below the number all is 0. */
+static void refused(uint64_t answer, uint32_t number, int line)
+{
+    check(answer == (uint64_t)number << 32 && sheets_number(answer) == number, "the question missed", line);
+    check(sheets_length(answer) == 0 && sheets_weight(answer) == 0 && sheets_additions(answer) == 0, "no length and no weight", line);
+}
+
+/* The parts of made-up answers, of which none runs into another. */
+static void parts(void)
+{
+    uint64_t all = UINT64_C(0x89abcdef76543210), late = UINT64_C(0x0000000b00012345);
+    unsigned bit;
+    CHECK(sheets_number(all) == 0x89abcdef && sheets_line(all) == 0x76543210);
+    CHECK(sheets_length(all) == 0x3210 && sheets_weight(all) == 0x7654 && sheets_additions(all) == 0x7654);
+    CHECK(sheets_number(late) == 11 && sheets_line(late) == 0x12345);
+    for (bit = 0; bit < 64; bit++) {
+        uint64_t answer = UINT64_C(1) << bit;
+        CHECK(sheets_length(answer) == (bit < 16 ? answer : 0));
+        CHECK(sheets_weight(answer) == (16 <= bit && bit < 32 ? answer >> 16 : 0));
+        CHECK(sheets_additions(answer) == sheets_weight(answer));
+        CHECK(sheets_line(answer) == (bit < 32 ? answer : 0));
+        CHECK(sheets_number(answer) == (32 <= bit ? answer >> 32 : 0));
+    }
+}
 
 /* ---- inputs, each in a block of its own size ---- */
 
@@ -61,6 +105,25 @@ static struct bytes text(const char *s) { return bytes_of((const uint8_t *)s, st
 
 /* A scalar of one byte. */
 static struct bytes byte(uint8_t value) { return bytes_of(&value, 1); }
+
+/* A scalar whose row for window 1 is as heavy as any: it has a digit that is not 0 at every second place, from place 0 to place 528. */
+static struct bytes heavy(void)
+{
+    uint8_t all[66];
+    memset(all, 0xaa, sizeof all);
+    all[65] = 0xab;
+    return bytes_of(all, sizeof all);
+}
+
+/* Three bytes, over and over. */
+static struct bytes repeated(uint8_t a, uint8_t b, uint8_t c)
+{
+    uint8_t all[66];
+    size_t i;
+    for (i = 0; i < sizeof all; i++)
+        all[i] = i % 3 == 0 ? a : i % 3 == 1 ? b : c;
+    return bytes_of(all, sizeof all);
+}
 
 /* The next of a fixed sequence of numbers that look random. */
 static uint32_t next_number(void)
@@ -139,6 +202,24 @@ static int zeros_above(const uint8_t *digits, size_t length, size_t places)
     return 1;
 }
 
+/* How many digits are not 0. */
+static size_t weight_of(const uint8_t *digits, size_t places)
+{
+    size_t i, weight = 0;
+    for (i = 0; i < places; i++)
+        weight += digits[i] != 0;
+    return weight;
+}
+
+/* How many columns are not zero. */
+static size_t columns_of(const uint8_t *p, const uint8_t *q, size_t places)
+{
+    size_t i, weight = 0;
+    for (i = 0; i < places; i++)
+        weight += p[i] != 0 || q[i] != 0;
+    return weight;
+}
+
 /* Whether the digits' sum of digit times 2^place is the scalar. The number is kept in bytes, the least significant first. */
 static int reads_back(const uint8_t *digits, size_t length, struct bytes scalar)
 {
@@ -172,32 +253,45 @@ static size_t bit_length(struct bytes scalar)
 
 /* ---- rows ---- */
 
-/* A row call that is to give these digits. */
-static void row_is(struct bytes scalar, uint32_t m, size_t places, const int8_t *digits, size_t length, int line)
+/* A row call that is to give these digits, of which so many are not 0. */
+static void row_is(struct bytes scalar, uint32_t m, size_t places, size_t weight, const int8_t *digits, size_t length, int line)
 {
     uint8_t *out = lend(&first);
-    uint64_t answer = sheets_row(scalar.at, scalar.n, m, out, places);
-    check(sheets_number(answer) == 0, "the row is given", line);
-    check(sheets_length(answer) == length, "its length", line);
+    written(sheets_row(scalar.at, scalar.n, m, out, places), length, weight, line);
+    check(weight_of(out, places) == weight, "its weight", line);
     check(length <= places && memcmp(out, digits, length) == 0, "its digits", line);
     check(zeros_above(out, length, places), "zeros above", line);
     check(kept(&first, places), "no other byte", line);
     check(only_read(scalar), "the scalar is only read", line);
 }
 
-#define ROW(scalar, m, places, ...) \
-    row_is((scalar), (m), (places), (const int8_t[]){__VA_ARGS__}, sizeof(const int8_t[]){__VA_ARGS__}, __LINE__)
+#define ROW(scalar, m, places, weight, ...) \
+    row_is((scalar), (m), (places), (weight), (const int8_t[]){__VA_ARGS__}, sizeof(const int8_t[]){__VA_ARGS__}, __LINE__)
 
 /* A row call that is to be refused. */
 static void row_refused(struct bytes scalar, uint32_t m, size_t places, uint32_t number, int line)
 {
-    uint64_t answer = sheets_row(scalar.at, scalar.n, m, lend(&first), places);
-    check(answer == (uint64_t)number << 32, "the row is refused", line);
+    refused(sheets_row(scalar.at, scalar.n, m, lend(&first), places), number, line);
     check(kept(&first, 0), "the buffer is as lent", line);
     check(only_read(scalar), "the scalar is only read", line);
 }
 
 #define ROW_REFUSED(scalar, m, places, number) row_refused((scalar), (m), (places), (number), __LINE__)
+
+/* Rows with a digit that is not 0 at every second place. */
+static void heavy_rows(void)
+{
+    int8_t positive[529], negative[529];
+    size_t i;
+    for (i = 0; i < 529; i++) {
+        positive[i] = i % 2 == 0 ? 0 : 1;
+        negative[i] = i % 2 == 0 ? -1 : 0;
+    }
+    negative[528] = 1;
+    row_is(filled(0xaa, 66), 1, SHEETS_PLACES(66), 264, positive, 528, __LINE__);
+    row_is(filled(0x55, 66), 1, SHEETS_PLACES(66), 264, positive + 1, 527, __LINE__);
+    row_is(heavy(), 1, SHEETS_PLACES(66), 265, negative, 529, __LINE__);
+}
 
 static void rows(void)
 {
@@ -206,19 +300,20 @@ static void rows(void)
     uint32_t m;
 
     /* the samples */
-    row_is(byte(0), 1, 9, none, 0, __LINE__);
-    ROW(byte(7), 5, 9, -1, 0, 0, 1);
-    ROW(byte(9), 5, 9, 1, 0, 0, 1);
-    ROW(byte(9), 7, 9, -7, 0, 0, 0, 1);
-    ROW(byte(33), 31, 9, -31, 0, 0, 0, 0, 0, 1);
-    ROW(byte(53), 3, 9, -3, 0, 0, -1, 0, 0, 1);
+    row_is(byte(0), 1, 9, 0, none, 0, __LINE__);
+    ROW(byte(7), 5, 9, 2, -1, 0, 0, 1);
+    ROW(byte(9), 5, 9, 2, 1, 0, 0, 1);
+    ROW(byte(9), 7, 9, 2, -7, 0, 0, 0, 1);
+    ROW(byte(33), 31, 9, 2, -31, 0, 0, 0, 0, 0, 1);
+    ROW(byte(53), 3, 9, 3, -3, 0, 0, -1, 0, 0, 1);
     ones[528] = 1;
-    row_is(filled(255, 66), 1, SHEETS_PLACES(66), ones, 529, __LINE__);
+    row_is(filled(255, 66), 1, SHEETS_PLACES(66), 2, ones, 529, __LINE__);
+    heavy_rows();
 
     /* leading zero bytes, more room than is needed, the carry out of the top place */
-    ROW(bytes_of((const uint8_t *)"\0\0\7", 3), 5, 1000, -1, 0, 0, 1);
-    ROW(byte(255), 1, 9, -1, 0, 0, 0, 0, 0, 0, 0, 1);
-    row_is(filled(0, 66), 31, SHEETS_PLACES(66), none, 0, __LINE__);
+    ROW(bytes_of((const uint8_t *)"\0\0\7", 3), 5, 1000, 2, -1, 0, 0, 1);
+    ROW(byte(255), 1, 9, 2, -1, 0, 0, 0, 0, 0, 0, 0, 1);
+    row_is(filled(0, 66), 31, SHEETS_PLACES(66), 0, none, 0, __LINE__);
 
     /* 1. has the scalar 1 to 66 bytes? */
     ROW_REFUSED(filled(1, 0), 1, 1, 1);
@@ -257,8 +352,8 @@ static void rows(void)
             uint8_t *out = lend(&first);
             uint64_t answer = sheets_row(scalar.at, n, m, out, places);
             int allowed = 1;
-            length = sheets_length(answer);
-            CHECK(sheets_number(answer) == 0);
+            length = length_within(answer, places);
+            written(answer, length, weight_of(out, places), __LINE__);
             CHECK(length <= bit_length(scalar) + 1);
             for (i = 0; i < length; i++) {
                 int d = digit(out, i);
@@ -274,13 +369,14 @@ static void rows(void)
 
 /* ---- joint forms ---- */
 
-static void joint_is(struct bytes k, struct bytes l, const int8_t *k_digits, const int8_t *l_digits, size_t length, int line)
+/* A joint call that is to give these digits, with so many columns that are not zero. */
+static void joint_is(struct bytes k, struct bytes l, size_t weight, const int8_t *k_digits, const int8_t *l_digits, size_t length,
+                     int line)
 {
     uint8_t *p = lend(&first), *q = lend(&second);
     size_t places = SHEETS_PLACES(k.n > l.n ? k.n : l.n);
-    uint64_t answer = sheets_joint(k.at, k.n, l.at, l.n, p, places, q, places + 3);
-    check(sheets_number(answer) == 0, "the joint form is given", line);
-    check(sheets_length(answer) == length, "its length", line);
+    written(sheets_joint(k.at, k.n, l.at, l.n, p, places, q, places + 3), length, weight, line);
+    check(columns_of(p, q, places) == weight, "its weight", line);
     check(memcmp(p, k_digits, length) == 0, "the digits of k", line);
     check(memcmp(q, l_digits, length) == 0, "the digits of l", line);
     check(zeros_above(p, length, places) && zeros_above(q, length, places + 3), "zeros above", line);
@@ -290,8 +386,7 @@ static void joint_is(struct bytes k, struct bytes l, const int8_t *k_digits, con
 
 static void joint_refused(struct bytes k, struct bytes l, size_t k_places, size_t l_places, uint32_t number, int line)
 {
-    uint64_t answer = sheets_joint(k.at, k.n, l.at, l.n, lend(&first), k_places, lend(&second), l_places);
-    check(answer == (uint64_t)number << 32, "the joint form is refused", line);
+    refused(sheets_joint(k.at, k.n, l.at, l.n, lend(&first), k_places, lend(&second), l_places), number, line);
     check(kept(&first, 0) && kept(&second, 0), "the buffers are as lent", line);
     check(only_read(k) & only_read(l), "the scalars are only read", line);
 }
@@ -321,17 +416,30 @@ static int keeps_rules(const uint8_t *p, const uint8_t *q, size_t places)
     return 1;
 }
 
+/* A joint form in which two columns of every three are not zero, the most that the rules allow; and two rows with the same columns. */
+static void heavy_joints(void)
+{
+    int8_t third[529] = {0}, ones[529] = {-1};
+    size_t i;
+    for (i = 1; i < 529; i += 3)
+        third[i] = 1;
+    ones[528] = 1;
+    joint_is(repeated(0x24, 0x92, 0x49), repeated(0x49, 0x24, 0x92), 352, third + 1, third, 527, __LINE__);
+    joint_is(filled(255, 66), filled(255, 66), 2, ones, ones, 529, __LINE__);
+}
+
 static void joints(void)
 {
     size_t n;
 
     /* the samples */
-    joint_is(byte(13), byte(10), (const int8_t[]){-1, -1, 0, 0, 1}, (const int8_t[]){0, 1, 0, 1, 0}, 5, __LINE__);
-    joint_is(byte(7), byte(2), (const int8_t[]){-1, 0, 0, 1}, (const int8_t[]){0, 1, 0, 0}, 4, __LINE__);
-    joint_is(byte(3), byte(2), (const int8_t[]){1, 1}, (const int8_t[]){0, 1}, 2, __LINE__);
-    joint_is(byte(1), byte(2), (const int8_t[]){1, 0}, (const int8_t[]){0, 1}, 2, __LINE__);
-    joint_is(byte(0), byte(0), (const int8_t[]){0}, (const int8_t[]){0}, 0, __LINE__);
-    joint_is(byte(3), bytes_of((const uint8_t *)"\0\2", 2), (const int8_t[]){1, 1}, (const int8_t[]){0, 1}, 2, __LINE__);
+    joint_is(byte(13), byte(10), 4, (const int8_t[]){-1, -1, 0, 0, 1}, (const int8_t[]){0, 1, 0, 1, 0}, 5, __LINE__);
+    joint_is(byte(7), byte(2), 3, (const int8_t[]){-1, 0, 0, 1}, (const int8_t[]){0, 1, 0, 0}, 4, __LINE__);
+    joint_is(byte(3), byte(2), 2, (const int8_t[]){1, 1}, (const int8_t[]){0, 1}, 2, __LINE__);
+    joint_is(byte(1), byte(2), 2, (const int8_t[]){1, 0}, (const int8_t[]){0, 1}, 2, __LINE__);
+    joint_is(byte(0), byte(0), 0, (const int8_t[]){0}, (const int8_t[]){0}, 0, __LINE__);
+    joint_is(byte(3), bytes_of((const uint8_t *)"\0\2", 2), 2, (const int8_t[]){1, 1}, (const int8_t[]){0, 1}, 2, __LINE__);
+    heavy_joints();
 
     /* 1. has each scalar 1 to 66 bytes? */
     JOINT_REFUSED(filled(1, 0), byte(2), 1000, 1000, 1);
@@ -359,9 +467,9 @@ static void joints(void)
         size_t places = SHEETS_PLACES(k.n > l.n ? k.n : l.n), bits, length;
         uint8_t *p = lend(&first), *q = lend(&second);
         uint64_t answer = sheets_joint(k.at, k.n, l.at, l.n, p, places, q, places);
-        length = sheets_length(answer);
+        length = length_within(answer, places);
         bits = bit_length(k) > bit_length(l) ? bit_length(k) : bit_length(l);
-        CHECK(sheets_number(answer) == 0);
+        written(answer, length, columns_of(p, q, places), __LINE__);
         CHECK(length <= bits + 1);
         CHECK(length == 0 || (p[length - 1] | q[length - 1]) != 0);
         CHECK(keeps_rules(p, q, places));
@@ -377,7 +485,7 @@ static void joints(void)
 
 /* The two rows of a joint form and their codes. */
 struct form {
-    size_t length;
+    size_t length, weight;
     int8_t k_digits[8], l_digits[8];
     uint8_t k_codes[8], l_codes[8];
 };
@@ -387,8 +495,8 @@ static void codes_are(struct bytes k, struct bytes l, struct form form, int line
     uint8_t *p = lend(&first), *q = lend(&second), *pc = lend(&third), *qc = lend(&fourth);
     size_t n = form.length, places = SHEETS_PLACES(k.n > l.n ? k.n : l.n);
     uint64_t answer = sheets_joint_codes(k.at, k.n, l.at, l.n, p, places, q, places + 3, pc, places + 5, qc, places + 7);
-    check(sheets_number(answer) == 0, "the joint form is given", line);
-    check(sheets_length(answer) == n, "its length", line);
+    written(answer, n, form.weight, line);
+    check(columns_of(p, q, places) == form.weight, "its weight", line);
     check(memcmp(p, form.k_digits, n) == 0 && memcmp(q, form.l_digits, n) == 0, "the digits of k and l", line);
     check(memcmp(pc, form.k_codes, n) == 0, "the codes of k", line);
     check(memcmp(qc, form.l_codes, n) == 0, "the codes of l", line);
@@ -403,7 +511,7 @@ static void codes_refused(struct bytes k, struct bytes l, const size_t rooms[4],
 {
     uint64_t answer = sheets_joint_codes(k.at, k.n, l.at, l.n, lend(&first), rooms[0], lend(&second), rooms[1], lend(&third),
                                          rooms[2], lend(&fourth), rooms[3]);
-    check(answer == (uint64_t)number << 32, "the joint form is refused", line);
+    refused(answer, number, line);
     check(kept(&first, 0) && kept(&second, 0) && kept(&third, 0) && kept(&fourth, 0), "the buffers are as lent", line);
     check(only_read(k) & only_read(l), "the scalars are only read", line);
 }
@@ -433,12 +541,12 @@ static void codes(void)
     size_t n, i;
 
     /* a sign that turns at 5 and at 3 beside 2, in either row; one that does not, at 7 */
-    codes_are(byte(13), byte(10), (struct form){5, {-1, -1, 0, 0, 1}, {0, 1, 0, 1, 0}, {2, 1, 0, 0, 1}, {0, 1, 0, 1, 0}}, __LINE__);
-    codes_are(byte(7), byte(2), (struct form){4, {-1, 0, 0, 1}, {0, 1, 0, 0}, {1, 0, 0, 1}, {0, 1, 0, 0}}, __LINE__);
-    codes_are(byte(3), byte(2), (struct form){2, {1, 1}, {0, 1}, {2, 1}, {0, 1}}, __LINE__);
-    codes_are(byte(2), byte(3), (struct form){2, {0, 1}, {1, 1}, {0, 1}, {2, 1}}, __LINE__);
-    codes_are(byte(0), byte(0), (struct form){0, {0}, {0}, {0}, {0}}, __LINE__);
-    codes_are(byte(3), bytes_of((const uint8_t *)"\0\2", 2), (struct form){2, {1, 1}, {0, 1}, {2, 1}, {0, 1}}, __LINE__);
+    codes_are(byte(13), byte(10), (struct form){5, 4, {-1, -1, 0, 0, 1}, {0, 1, 0, 1, 0}, {2, 1, 0, 0, 1}, {0, 1, 0, 1, 0}}, __LINE__);
+    codes_are(byte(7), byte(2), (struct form){4, 3, {-1, 0, 0, 1}, {0, 1, 0, 0}, {1, 0, 0, 1}, {0, 1, 0, 0}}, __LINE__);
+    codes_are(byte(3), byte(2), (struct form){2, 2, {1, 1}, {0, 1}, {2, 1}, {0, 1}}, __LINE__);
+    codes_are(byte(2), byte(3), (struct form){2, 2, {0, 1}, {1, 1}, {0, 1}, {2, 1}}, __LINE__);
+    codes_are(byte(0), byte(0), (struct form){0, 0, {0}, {0}, {0}, {0}}, __LINE__);
+    codes_are(byte(3), bytes_of((const uint8_t *)"\0\2", 2), (struct form){2, 2, {1, 1}, {0, 1}, {2, 1}, {0, 1}}, __LINE__);
 
     /* 1. has each scalar 1 to 66 bytes? */
     CODES_REFUSED(filled(1, 0), byte(2), 1000, 1000, 1000, 1000, 1);
@@ -466,9 +574,10 @@ static void codes(void)
         struct bytes k = any_scalar(n), l = any_scalar(1 + next_number() % 66);
         size_t places = SHEETS_PLACES(k.n > l.n ? k.n : l.n);
         uint8_t *p = lend(&first), *q = lend(&second), *pc = lend(&third), *qc = lend(&fourth);
+        uint64_t answer = sheets_joint_codes(k.at, k.n, l.at, l.n, p, places, q, places, pc, places, qc, places);
         int right = 1;
-        CHECK(sheets_joint_codes(k.at, k.n, l.at, l.n, p, places, q, places, pc, places, qc, places)
-              == sheets_joint(k.at, k.n, l.at, l.n, k_row, places, l_row, places));
+        written(answer, sheets_length(answer), columns_of(p, q, places), __LINE__);
+        CHECK(answer == sheets_joint(k.at, k.n, l.at, l.n, k_row, places, l_row, places));
         CHECK(memcmp(p, k_row, places) == 0 && memcmp(q, l_row, places) == 0);
         CHECK(reads_back(p, places, k) && reads_back(q, places, l));
         for (i = 0; i < places; i++)
@@ -500,33 +609,63 @@ static uint64_t write_sheet(struct order o, struct bytes k, struct bytes l, uint
     return sheets_cheapest(k.at, k.n, l.at, l.n, o.m1, sheet, room);
 }
 
-/* A call that is to write a sheet that begins so, and that the reader accepts. Returns the sheet's length. */
-static size_t sheet_begins(struct order o, struct bytes k, struct bytes l, const char *begins, int line)
+/* The additions that a sheet's header states, behind S, the kind, the windows and the slots. */
+static size_t stated_additions(const uint8_t *sheet, size_t length)
+{
+    size_t i, commas = 0, additions = 0;
+    for (i = 0; i < length && sheet[i] != '\n'; i++)
+        if (sheet[i] == ',')
+            commas++;
+        else if (commas == 5)
+            additions = 10 * additions + (size_t)(sheet[i] - '0');
+    return additions;
+}
+
+/* The additions among a sheet's lines: the A lines, and the T lines other than those of 2P and 2Q. */
+static size_t counted_additions(const uint8_t *sheet, size_t length)
+{
+    size_t i, additions = 0;
+    for (i = 0; i < length; i++)
+        if (i == 0 || sheet[i - 1] == '\n') {
+            int doubling = length - i >= 6 && (memcmp(sheet + i, "T,2,0\n", 6) == 0 || memcmp(sheet + i, "T,0,2\n", 6) == 0);
+            additions += sheet[i] == 'A' || (sheet[i] == 'T' && !doubling);
+        }
+    return additions;
+}
+
+/* A call that is to write a sheet that begins so, with the additions that it states, and that the reader accepts. Returns the answer. */
+static uint64_t sheet_begins(struct order o, struct bytes k, struct bytes l, const char *begins, int line)
 {
     uint8_t *sheet = lend(&first);
     uint64_t answer = write_sheet(o, k, l, sheet, SHEETS_BYTES);
-    size_t length = sheets_length(answer);
-    struct bytes written;
-    check(sheets_number(answer) == 0, "the sheet is written", line);
+    size_t length = length_within(answer, SHEETS_BYTES);
+    struct bytes lines;
+    written(answer, length, counted_additions(sheet, length), line);
+    check(stated_additions(sheet, length) == sheets_additions(answer), "the additions of the header", line);
     check(strlen(begins) <= length && memcmp(sheet, begins, strlen(begins)) == 0, "it begins so", line);
-    check(length <= SHEETS_BYTES && kept(&first, length), "no byte behind it", line);
-    written = bytes_of(sheet, length);
-    check(sheets_read(written.at, written.n) == 0, "the reader accepts it", line);
-    check(only_read(written), "the sheet is only read", line);
+    check(kept(&first, length), "no byte behind it", line);
+    lines = bytes_of(sheet, length);
+    check(sheets_read(lines.at, lines.n) == 0, "the reader accepts it", line);
+    check(only_read(lines), "the sheet is only read", line);
     check(only_read(k) & only_read(l), "the scalars are only read", line);
-    return length;
+    return answer;
+}
+
+/* A call that is to write a sheet with this header. */
+static void header_is(struct order o, struct bytes k, struct bytes l, size_t additions, const char *header, int line)
+{
+    check(sheets_additions(sheet_begins(o, k, l, header, line)) == additions, "the additions", line);
 }
 
 /* A call that is to write this sheet. */
-static void sheet_is(struct order o, struct bytes k, struct bytes l, const char *whole, int line)
+static void sheet_is(struct order o, struct bytes k, struct bytes l, size_t additions, const char *whole, int line)
 {
-    check(sheet_begins(o, k, l, whole, line) == strlen(whole), "it is this sheet", line);
+    written(sheet_begins(o, k, l, whole, line), strlen(whole), additions, line);
 }
 
 static void sheet_refused(struct order o, struct bytes k, struct bytes l, size_t room, uint32_t number, int line)
 {
-    uint64_t answer = write_sheet(o, k, l, lend(&first), room);
-    check(answer == (uint64_t)number << 32, "the sheet is refused", line);
+    refused(write_sheet(o, k, l, lend(&first), room), number, line);
     check(kept(&first, 0), "the buffer is as lent", line);
     check(only_read(k) & only_read(l), "the scalars are only read", line);
 }
@@ -548,32 +687,45 @@ static const char thirteen_ten[] =
 
 static const char nine[] = "S,I,5,1,3,3,4,9,0\nT,2,0\nT,3,0\nT,5,0\nL,1,0\nD\nD\nD\nA,1,0\nE\n";
 
+/*
+ * The most steps. Two heavy rows: a header of 284 bytes, 12 bytes at the top place, 528 D lines, 14 bytes at every second place below, and
+ * E. Then a heavy joint form; and a heavy row behind the table of the widest window.
+ */
+static void heavy_sheets(void)
+{
+    uint64_t answer = sheet_begins(plan_i(1, 1), heavy(), heavy(), "S,I,1,1,0,529,528,aaaa", __LINE__);
+    written(answer, 284 + 12 + 528 * 2 + 264 * 14 + 2, 529, __LINE__);
+    header_is(plan_j, repeated(0x24, 0x92, 0x49), repeated(0x49, 0x24, 0x92), 353, "S,J,1,1,2,353,526,2492", __LINE__);
+    header_is(plan_i(31, 1), byte(0), heavy(), 279, "S,I,31,1,16,279,529,0,aaaa", __LINE__);
+}
+
 static void sheets(void)
 {
     uint32_t m, limit;
     size_t n;
 
     /* the samples */
-    sheet_is(cheapest(0), byte(7), byte(2), seven_two, __LINE__);
-    sheet_begins(cheapest(1), byte(3), byte(0), "S,I,1,1,0,1,2,3,0\n", __LINE__);
+    sheet_is(cheapest(0), byte(7), byte(2), 2, seven_two, __LINE__);
+    header_is(cheapest(1), byte(3), byte(0), 1, "S,I,1,1,0,1,2,3,0\n", __LINE__);
 
     /* windows 3, 1 need two slots */
-    sheet_begins(cheapest(1), byte(45), byte(0), "S,I,1,1,0,3,6,2d,0\n", __LINE__);
-    sheet_begins(cheapest(2), byte(45), byte(0), "S,I,3,1,2,2,5,2d,0\n", __LINE__);
+    header_is(cheapest(1), byte(45), byte(0), 3, "S,I,1,1,0,3,6,2d,0\n", __LINE__);
+    header_is(cheapest(2), byte(45), byte(0), 2, "S,I,3,1,2,2,5,2d,0\n", __LINE__);
 
     /* sheets of a named plan */
-    sheet_is(plan_i(1, 1), byte(7), byte(2), seven_two, __LINE__);
-    sheet_is(plan_j, byte(13), byte(10), thirteen_ten, __LINE__);
-    sheet_is(plan_i(5, 1), byte(9), byte(0), nine, __LINE__);
-    sheet_is(plan_j, byte(0), byte(0), "S,J,1,1,2,2,0,0,0\nT,1,1\nT,1,-1\nE\n", __LINE__);
-    sheet_is(plan_i(1, 1), filled(0, 66), byte(0), "S,I,1,1,0,0,0,0,0\nE\n", __LINE__);
-    sheet_is(cheapest(31), byte(0), byte(0), "S,I,1,1,0,0,0,0,0\nE\n", __LINE__);
+    sheet_is(plan_i(1, 1), byte(7), byte(2), 2, seven_two, __LINE__);
+    sheet_is(plan_j, byte(13), byte(10), 5, thirteen_ten, __LINE__);
+    sheet_is(plan_i(5, 1), byte(9), byte(0), 3, nine, __LINE__);
+    sheet_is(plan_j, byte(0), byte(0), 2, "S,J,1,1,2,2,0,0,0\nT,1,1\nT,1,-1\nE\n", __LINE__);
+    sheet_is(plan_i(1, 1), filled(0, 66), byte(0), 0, "S,I,1,1,0,0,0,0,0\nE\n", __LINE__);
+    sheet_is(cheapest(31), byte(0), byte(0), 0, "S,I,1,1,0,0,0,0,0\nE\n", __LINE__);
 
     /* the longest scalars, every window, every limit, scalars of every length */
     sheet_begins(plan_j, filled(255, 66), filled(255, 66), "S,J,1,1,2,", __LINE__);
     sheet_begins(plan_j, filled(85, 66), filled(255, 66), "S,J,1,1,2,", __LINE__);
     sheet_begins(plan_i(1, 1), filled(85, 66), filled(85, 66), "S,I,1,1,0,", __LINE__);
     sheet_begins(plan_i(31, 31), filled(255, 66), filled(255, 66), "S,I,31,31,31,", __LINE__);
+    heavy_sheets();
     for (m = 1; m <= 31; m += 2) {
         windows_begin(m, 32 - m, __LINE__);
         windows_begin(m, m, __LINE__);
@@ -633,8 +785,9 @@ static void sheets(void)
 static void read_is(struct bytes sheet, uint32_t number, uint32_t at, int line)
 {
     uint64_t answer = sheets_read(sheet.at, sheet.n);
-    check(sheets_number(answer) == number, "the question", line);
-    check(sheets_line(answer) == at, "the line", line);
+    check(answer == ((uint64_t)number << 32 | at), "the whole answer", line);
+    check(sheets_number(answer) == number && answer >> 32 == number, "the question", line);
+    check(sheets_line(answer) == at && (answer & 0xffffffff) == at, "the line", line);
     check(only_read(sheet), "the sheet is only read", line);
 }
 
@@ -757,6 +910,7 @@ static void readings(void)
 
 int main(void)
 {
+    parts();
     rows();
     joints();
     codes();

@@ -1,4 +1,4 @@
-pub mod Counts
+pub mod Weighing
 pub mod Windows
 pub mod Numbers
 pub mod Limit

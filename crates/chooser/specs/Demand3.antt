@@ -61,9 +61,9 @@ cheapest-counted = Sheet.cheapest-counted
 pub cheapest-digits : (k l limit : ℕ) → k < 2 ^ 528 → l < 2 ^ 528 → columns (lines card (cheapest k l limit)) ≡ digits (cheapestPlan k l limit) k l
 cheapest-digits = Sheet.cheapest-digits
 
--- the row that the row call writes is 01's row of the scalar, and none over the same digits has fewer non-zero ones
-pub row-written : (s : List ℕ) (m : ℕ) (buffer : List ℕ) (n : ℕ) → rowAnswer card s m (length buffer) ≡ Written n
-    → RowOf m (scalar s) (rowBelow n (rowBuffer card s m buffer))
+-- the row that the row call writes is 01's row of the scalar, w of its digits are not 0, and none over the same digits has fewer such ones
+pub row-written : (s : List ℕ) (m : ℕ) (buffer : List ℕ) (n w : ℕ) → rowAnswer card s m (length buffer) ≡ Written n w
+    → RowOf m (scalar s) w (rowBelow n (rowBuffer card s m buffer))
 row-written = Recoding.row-written card
 
 -- two column lists that keep the joint sparse rules with a non-zero top are the same if they have the same pair of values
@@ -72,13 +72,14 @@ pub joint-unique : (cs ds : List Column) → Keeps cs → Topped cs → Keeps ds
 joint-unique = Forms.joint-unique
 
 -- the columns that the joint call writes are such a list for the two scalars, and every such list is equal to them
-pub joint-written : (s t k l : List ℕ) (n : ℕ) → jointAnswer card s t (length k) (length l) ≡ Written n
-    → JointOf (scalar s) (scalar t) (columnsBelow n (jointBuffer card P s t k l) (jointBuffer card Q s t k l))
+pub joint-written : (s t k l : List ℕ) (n w : ℕ) → jointAnswer card s t (length k) (length l) ≡ Written n w
+    → JointOf (scalar s) (scalar t) w (columnsBelow n (jointBuffer card P s t k l) (jointBuffer card Q s t k l))
 joint-written = Recoding.joint-written card
 
 -- and such a list is the one that the joint call writes, whenever it writes for these values
-pub joint-only : (s t k l : List ℕ) (n : ℕ) (cs : List Column) → Keeps cs → Topped cs
+pub joint-only : (s t k l : List ℕ) (n w : ℕ) (cs : List Column) → Keeps cs → Topped cs
     → value (Columns.row two P cs) ≡ pos (scalar s) → value (Columns.row two Q cs) ≡ pos (scalar t)
-    → jointAnswer card s t (length k) (length l) ≡ Written n
-    → (n ≡ length cs) × (jointBuffer card P s t k l ≡ filled (Columns.row two P cs) k) × (jointBuffer card Q s t k l ≡ filled (Columns.row two Q cs) l)
+    → jointAnswer card s t (length k) (length l) ≡ Written n w
+    → ((n ≡ length cs) × (w ≡ Columns.weight two cs))
+    × ((jointBuffer card P s t k l ≡ filled (Columns.row two P cs) k) × (jointBuffer card Q s t k l ≡ filled (Columns.row two Q cs) l))
 joint-only = Recoding.joint-only card

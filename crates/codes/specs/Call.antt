@@ -1,6 +1,7 @@
 -- What the call for a joint form with its codes answers and leaves in the four buffers it is lent, for all input; and what it promises
 -- of the codes that stand there.
 pub mod Standing
+pub mod Short
 pub mod Returned
 use mathlib.Core.Path.{_≡_}
 use mathlib.Core.Bool.{Bool, _&&_, cond}
@@ -32,7 +33,7 @@ abbrev pub ifRoomy : Bool → Recoded → Recoded
 ifRoomy met BadScalar = BadScalar
 ifRoomy met BadWindow = BadWindow
 ifRoomy met NoRoom = NoRoom
-ifRoomy met (Written n) = cond met (Written n) NoRoom
+ifRoomy met (Written n w) = cond met (Written n w) NoRoom
 
 -- the answer: that of a joint form, where the code buffers are roomy
 unfoldable pub codesAnswer : Limits → List ℕ → List ℕ → ℕ → ℕ → ℕ → ℕ → Recoded
@@ -52,7 +53,7 @@ abbrev pub leftCodes : Recoded → List ℕ → List ℕ → List ℕ
 leftCodes BadScalar ns buffer = buffer
 leftCodes BadWindow ns buffer = buffer
 leftCodes NoRoom ns buffer = buffer
-leftCodes (Written n) ns buffer = coded ns buffer
+leftCodes (Written n w) ns buffer = coded ns buffer
 
 module _ (limits : Limits) (r : Two) (s t k l k-codes l-codes : List ℕ) where
   -- one of the two digit buffers
@@ -78,5 +79,5 @@ abbrev pub CodesPromised : ℕ → ℕ → Recoded → List ℕ → List ℕ →
 CodesPromised k l BadScalar buffer buffer′ ns ns′ = Unit {0}
 CodesPromised k l BadWindow buffer buffer′ ns ns′ = Unit {0}
 CodesPromised k l NoRoom buffer buffer′ ns ns′ = Unit {0}
-CodesPromised k l (Written n) buffer buffer′ ns ns′ =
-    JointOf k l (columnsBelow n buffer buffer′) × CodesOf (pos k) (pos l) (λ r. rowBelow n (of buffer buffer′ r)) (of ns ns′)
+CodesPromised k l (Written n w) buffer buffer′ ns ns′ =
+    JointOf k l w (columnsBelow n buffer buffer′) × CodesOf (pos k) (pos l) (λ r. rowBelow n (of buffer buffer′ r)) (of ns ns′)

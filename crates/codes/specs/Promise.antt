@@ -14,12 +14,12 @@ use Rattle.recode.specs.declared.answer.Recoded.the-variants.{Written}
 use Rattle.codes.specs.Call.{codesAnswer, codesDigits, codesBuffer, CodesOf, CodesPromised}
 use Rattle.codes.specs.Call.Standing as Standing
 
-module _ (limits : Limits) (s t k l k-codes l-codes : List ℕ) (n : ℕ)
-    (written : codesAnswer limits s t (length k) (length l) (length k-codes) (length l-codes) ≡ Written n) where
+module _ (limits : Limits) (s t k l k-codes l-codes : List ℕ) (n w : ℕ)
+    (written : codesAnswer limits s t (length k) (length l) (length k-codes) (length l-codes) ≡ Written n w) where
   -- a joint call with the same digit buffers answers the same, and leaves the same rows
-  pub codes-joint : (jointAnswer limits s t (length k) (length l) ≡ Written n)
+  pub codes-joint : (jointAnswer limits s t (length k) (length l) ≡ Written n w)
       × ((r : Two) → codesDigits limits r s t k l k-codes l-codes ≡ jointBuffer limits r s t k l)
-  codes-joint = Standing.codes-joint limits s t k l k-codes l-codes n written
+  codes-joint = Standing.codes-joint limits s t k l k-codes l-codes n w written
 
   -- at every place the code is the one whose condition held there, and the digit follows from it
   pub codes-written :

@@ -9,9 +9,8 @@ ghost use Rattle.digits.specs.Scalar;
 ghost use Rattle.digits.specs.Scalar.{sized};
 ghost use Rattle.digits.specs.Two.{P, Q};
 ghost use Rattle.forms.specs.Joint.{joint};
-ghost use Rattle.recode.specs.Call.{number, filled};
+ghost use Rattle.recode.specs.Call.{number, wroteColumns, filled};
 ghost use Rattle.recode.specs.Call.Joint.{digitsOf};
-ghost use Rattle.recode.specs.declared.answer.Recoded.the-variants.{Written};
 ghost use Rattle.codes.specs.Call.{codesQuestion, codesAnswer, codesOf, coded, codesDigits, codesBuffer, CodesPromised};
 use recode::Recoded;
 
@@ -43,7 +42,7 @@ fn write_both(
     requires { ⌜ ((sized card (now k) && sized card (now l)) ≡ true) × (places ≡ 8 * max (length (now k)) (length (now l)) + 1) ⌝ }
     requires { ⌜ (places ≤ length (now «k_digits»)) × (places ≤ length (now «l_digits»)) ⌝ }
     requires { ⌜ (places ≤ length (now «k_codes»)) × (places ≤ length (now «l_codes»)) ⌝ }
-    ensures { λ r. ⌜ r ≡ Written (length (joint (pos (Scalar.scalar (now (k .entry)))) (pos (Scalar.scalar (now (l .entry)))))) ⌝ }
+    ensures { λ r. ⌜ r ≡ wroteColumns (joint (pos (Scalar.scalar (now (k .entry)))) (pos (Scalar.scalar (now (l .entry))))) ⌝ }
     ensures { λ _. ⌜ now («k_digits» .exit) ≡ filled (digitsOf P (now (k .entry)) (now (l .entry))) (now («k_digits» .entry)) ⌝ }
     ensures { λ _. ⌜ now («l_digits» .exit) ≡ filled (digitsOf Q (now (k .entry)) (now (l .entry))) (now («l_digits» .entry)) ⌝ }
     ensures { λ _. ⌜ now («k_codes» .exit) ≡ coded (codesOf P (now (k .entry)) (now (l .entry))) (now («k_codes» .entry)) ⌝ }

@@ -1,6 +1,7 @@
 -- Columns of digits −1, 0, 1 for any number of rows, place 0 first. `Kind` says what a column is; everything else is for
 -- every kind.
 pub mod Adding
+pub mod Weight
 pub mod Length
 use mathlib.Core.Path.{_≡_}
 use mathlib.Core.Logic.{_≢_}

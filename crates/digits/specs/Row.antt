@@ -1,6 +1,7 @@
 -- Rows: lists of signed digits, place 0 first.
 pub mod Parts
 pub mod Adding
+pub mod Weight
 pub mod Window
 use mathlib.Core.Path.{_≡_}
 use mathlib.Core.Bool.{Bool, _&&_}

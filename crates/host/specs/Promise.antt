@@ -1,8 +1,8 @@
--- What the C host can rely on: the two halves of the number that a call returns are the number of the question missed and the
--- length written, or the reader's line, whatever was asked.
+-- What the C host can rely on: the parts that sheets.h takes out of the number that a call returns are the number of the question missed,
+-- and the length and the weight, or the additions, of what was written, or the reader's line, whatever was asked.
 use mathlib.Core.Path.{_≡_}
 use mathlib.Core.List.{List}
-use Prim.Native.Nat.{ℕ, _/_, _%_, _^_, _<_}
+use Prim.Native.Nat.{ℕ}
 use native.Mathlib.Omega.{arith}
 use Rattle.digits.specs.Scalar.{Bytes}
 use Rattle.digits.specs.Limits.{card}
@@ -17,52 +17,88 @@ use Rattle.chooser.specs.Call.{cheapestAnswer}
 use Rattle.sheet.specs.Answer.{answer}
 use Rattle.reader.specs.Judgement.{judgement}
 use Rattle.reader.specs.declared.judge.Judgement.{Judgement}
-use Rattle.host.specs.Told.{packed, toldRecoded, toldSheet, toldJudgement, number, line}
-use Rattle.host.specs.Told.Lengths.{row-short, joint-short, codes-short, j-short, i-short, cheapest-short}
+use Rattle.host.specs.Told.{
+  packed,
+  joined,
+  Fits,
+  toldRecoded,
+  RecodedFits,
+  toldSheet,
+  SheetFits,
+  number,
+  line,
+  toldJudgement,
+  sheetsNumber,
+  sheetsLength,
+  sheetsWeight,
+  sheetsAdditions,
+  sheetsLine,
+}
 use Rattle.host.specs.Told.Lines.{line-within}
+use Rattle.host.specs.Told.Parts.{row-fits, joint-fits, codes-fits, j-fits, i-fits, cheapest-fits}
 
--- the high half and the low half of what is told
-pub record Halves (told high low : ℕ) : Type 0 where
-  pub above : told / 2 ^ 32 ≡ high
-  pub below : told % 2 ^ 32 ≡ low
+-- a row or a joint form
+pub record RecodedParts (r : Recoded) : Type 0 where
+  pub number-is : sheetsNumber (toldRecoded r) ≡ Recoding.number r
+  pub length-is : sheetsLength (toldRecoded r) ≡ Recoding.placesWritten r
+  pub weight-is : sheetsWeight (toldRecoded r) ≡ Recoding.weightWritten r
 
-packed-halves : (high low : ℕ) → low < 2 ^ 32 → Halves (packed high low) high low
-packed-halves high low h = record { above = omega arith; below = omega arith }
+-- a sheet
+pub record SheetParts (s : Sheet) : Type 0 where
+  pub number-is : sheetsNumber (toldSheet s) ≡ Writing.number s
+  pub length-is : sheetsLength (toldSheet s) ≡ Writing.bytesWritten s
+  pub additions-are : sheetsAdditions (toldSheet s) ≡ Writing.additions s
 
-abbrev pub RecodedHalves : Recoded → Type 0
-RecodedHalves r = Halves (toldRecoded r) (Recoding.number r) (Recoding.placesWritten r)
+-- a sheet that is read
+pub record JudgementParts (j : Judgement) : Type 0 where
+  pub number-is : sheetsNumber (toldJudgement j) ≡ number j
+  pub line-is : sheetsLine (toldJudgement j) ≡ line j
 
-abbrev pub SheetHalves : Sheet → Type 0
-SheetHalves s = Halves (toldSheet s) (Writing.number s) (Writing.bytesWritten s)
+-- what is packed comes out again
+module _ (n : ℕ) {length count : ℕ} (h : Fits length count) where
+  above : sheetsNumber (packed n (joined length count)) ≡ n
+  above = omega (arith, h .length-fits, h .count-fits)
 
-abbrev pub JudgementHalves : Judgement → Type 0
-JudgementHalves j = Halves (toldJudgement j) (number j) (line j)
+  below : sheetsLength (packed n (joined length count)) ≡ length
+  below = omega (arith, h .length-fits, h .count-fits)
+
+  between : sheetsWeight (packed n (joined length count)) ≡ count
+  between = omega (arith, h .length-fits, h .count-fits)
+
+recoded-parts : (r : Recoded) → RecodedFits r → RecodedParts r
+recoded-parts r h =
+    record { number-is = above (Recoding.number r) h; length-is = below (Recoding.number r) h; weight-is = between (Recoding.number r) h }
+
+sheet-parts : (s : Sheet) → SheetFits s → SheetParts s
+sheet-parts s h =
+    record { number-is = above (Writing.number s) h; length-is = below (Writing.number s) h; additions-are = between (Writing.number s) h }
 
 -- a row
-pub row-halves : (s : List ℕ) (m places : ℕ) → Bytes s → RecodedHalves (rowAnswer card s m places)
-row-halves s m places h = packed-halves _ _ (omega (arith, row-short s m places h))
+pub row-parts : (s : List ℕ) (m places : ℕ) → Bytes s → RecodedParts (rowAnswer card s m places)
+row-parts s m places h = recoded-parts (rowAnswer card s m places) (row-fits s m places h)
 
 -- a joint form
-pub joint-halves : (k l : List ℕ) (places places′ : ℕ) → Bytes k → Bytes l → RecodedHalves (jointAnswer card k l places places′)
-joint-halves k l places places′ h g = packed-halves _ _ (omega (arith, joint-short k l places places′ h g))
+pub joint-parts : (k l : List ℕ) (places places′ : ℕ) → Bytes k → Bytes l → RecodedParts (jointAnswer card k l places places′)
+joint-parts k l places places′ h g = recoded-parts (jointAnswer card k l places places′) (joint-fits k l places places′ h g)
 
 -- with its codes
-pub codes-halves : (k l : List ℕ) (places places′ room room′ : ℕ) → Bytes k → Bytes l → RecodedHalves (codesAnswer card k l places places′ room room′)
-codes-halves k l places places′ room room′ h g = packed-halves _ _ (omega (arith, codes-short k l places places′ room room′ h g))
+pub codes-parts : (k l : List ℕ) (places places′ room room′ : ℕ) → Bytes k → Bytes l → RecodedParts (codesAnswer card k l places places′ room room′)
+codes-parts k l places places′ room room′ h g =
+    recoded-parts (codesAnswer card k l places places′ room room′) (codes-fits k l places places′ room room′ h g)
 
 module _ (k l : List ℕ) (k-bytes : Bytes k) (l-bytes : Bytes l) where
   -- the sheet of plan J
-  pub j-halves : (room : ℕ) → SheetHalves (jAnswer card k l room)
-  j-halves room = packed-halves _ _ (omega (arith, j-short k l k-bytes l-bytes room))
+  pub j-parts : (room : ℕ) → SheetParts (jAnswer card k l room)
+  j-parts room = sheet-parts (jAnswer card k l room) (j-fits k l k-bytes l-bytes room)
 
   -- of plan I
-  pub i-halves : (m1 m2 room : ℕ) → SheetHalves (iAnswer card k l m1 m2 room)
-  i-halves m1 m2 room = packed-halves _ _ (omega (arith, i-short k l k-bytes l-bytes m1 m2 room))
+  pub i-parts : (m1 m2 room : ℕ) → SheetParts (iAnswer card k l m1 m2 room)
+  i-parts m1 m2 room = sheet-parts (iAnswer card k l m1 m2 room) (i-fits k l k-bytes l-bytes m1 m2 room)
 
   -- the cheapest
-  pub cheapest-halves : (limit room : ℕ) → SheetHalves (cheapestAnswer card k l limit room)
-  cheapest-halves limit room = packed-halves _ _ (omega (arith, cheapest-short k l k-bytes l-bytes limit room))
+  pub cheapest-parts : (limit room : ℕ) → SheetParts (cheapestAnswer card k l limit room)
+  cheapest-parts limit room = sheet-parts (cheapestAnswer card k l limit room) (cheapest-fits k l k-bytes l-bytes limit room)
 
 -- a sheet that is read
-pub read-halves : (s : List ℕ) → JudgementHalves (judgement (answer card s))
-read-halves s = packed-halves _ _ (omega (arith, line-within card s))
+pub read-parts : (s : List ℕ) → JudgementParts (judgement (answer card s))
+read-parts s = record { number-is = omega (arith, line-within card s); line-is = omega (arith, line-within card s) }

@@ -1,8 +1,7 @@
--- What a call tells the C host: one number of 64 bits, whose high half is the number of the question missed and whose low half is
--- the rest of the answer.
-pub mod Lengths
+-- What a call tells the C host: one number of 64 bits; and the parts of it that sheets.h takes out again.
+pub mod Parts
 pub mod Lines
-use Prim.Native.Nat.{ℕ, _+_, _*_, _^_}
+use Prim.Native.Nat.{ℕ, _+_, _*_, _/_, _%_, _^_, _<_}
 use Rattle.recode.specs.Call as Recoding
 use Rattle.recode.specs.declared.answer.Recoded.{Recoded}
 use Rattle.writer.specs.Call as Writing
@@ -10,17 +9,32 @@ use Rattle.writer.specs.declared.answer.Sheet.{Sheet}
 use Rattle.reader.specs.declared.judge.Judgement.{Judgement}
 use Rattle.reader.specs.declared.judge.Judgement.the-variants.{Accepted, Refused}
 
--- a number in the high 32 bits, and the rest below it
+-- a number in bits 32 to 63, and the rest below it
 abbrev pub packed : ℕ → ℕ → ℕ
 packed number rest = number * 2 ^ 32 + rest
 
--- a row or a joint form: the number of the question missed, 0 where none is; the length written
-abbrev pub toldRecoded : Recoded → ℕ
-toldRecoded r = packed (Recoding.number r) (Recoding.placesWritten r)
+-- a length in bits 0 to 15, and what is counted in bits 16 to 31
+abbrev pub joined : ℕ → ℕ → ℕ
+joined length count = count * 2 ^ 16 + length
 
--- a sheet: the same
+-- neither of the two is above its 16 bits
+pub record Fits (length count : ℕ) : Type 0 where
+  pub length-fits : length < 2 ^ 16
+  pub count-fits : count < 2 ^ 16
+
+-- a row or a joint form: the number of the question missed, 0 where none is; the length, and the weight
+abbrev pub toldRecoded : Recoded → ℕ
+toldRecoded r = packed (Recoding.number r) (joined (Recoding.placesWritten r) (Recoding.weightWritten r))
+
+abbrev pub RecodedFits : Recoded → Type 0
+RecodedFits r = Fits (Recoding.placesWritten r) (Recoding.weightWritten r)
+
+-- a sheet: the number; the length, and the additions
 abbrev pub toldSheet : Sheet → ℕ
-toldSheet s = packed (Writing.number s) (Writing.bytesWritten s)
+toldSheet s = packed (Writing.number s) (joined (Writing.bytesWritten s) (Writing.additions s))
+
+abbrev pub SheetFits : Sheet → Type 0
+SheetFits s = Fits (Writing.bytesWritten s) (Writing.additions s)
 
 -- the number of the reader's question that is missed, 0 where none is
 abbrev pub number : Judgement → ℕ
@@ -35,3 +49,24 @@ line (Refused n at) = at
 -- the reader: both
 abbrev pub toldJudgement : Judgement → ℕ
 toldJudgement j = packed (number j) (line j)
+
+-- ── the parts, by the names that sheets.h has for them ──────────────────────────────────────
+
+-- sheets_number: bits 32 to 63
+abbrev pub sheetsNumber : ℕ → ℕ
+sheetsNumber told = told / 2 ^ 32
+
+-- sheets_length: bits 0 to 15
+abbrev pub sheetsLength : ℕ → ℕ
+sheetsLength told = told % 2 ^ 16
+
+-- sheets_weight and sheets_additions: bits 16 to 31
+abbrev pub sheetsWeight : ℕ → ℕ
+sheetsWeight told = told / 2 ^ 16 % 2 ^ 16
+
+abbrev pub sheetsAdditions : ℕ → ℕ
+sheetsAdditions told = told / 2 ^ 16 % 2 ^ 16
+
+-- sheets_line: bits 0 to 31
+abbrev pub sheetsLine : ℕ → ℕ
+sheetsLine told = told % 2 ^ 32

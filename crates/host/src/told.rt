@@ -1,37 +1,27 @@
 ghost use mathlib.Core.Path.{_≡_};
 ghost use Prim.Native.Nat.{_^_, _<_};
-ghost use Rattle.recode.specs.Call as Recoding;
-ghost use Rattle.writer.specs.Call as Writing;
-ghost use Rattle.host.specs.Told.{packed, toldRecoded, toldSheet, line, toldJudgement};
+ghost use Rattle.host.specs.Told.{packed, joined, Fits, toldRecoded, RecodedFits, toldSheet, SheetFits, line, toldJudgement};
 use reader::Judgement;
 use recode::Recoded;
 use writer::Sheet;
 
 // What is told of a row or a joint form.
 pub fn recoded(answer: Recoded) -> u64
-    requires { ⌜ Recoding.placesWritten answer < 2 ^ 32 ⌝ }
+    requires { ⌜ RecodedFits answer ⌝ }
     ensures { λ r. ⌜ r ≡ toldRecoded answer ⌝ }
 {
-    match answer {
-        Recoded::BadScalar => pack(1, 0),
-        Recoded::BadWindow => pack(2, 0),
-        Recoded::NoRoom => pack(3, 0),
-        Recoded::Written(length) => pack(0, length),
-    }
+    pack(answer.number(), join(answer.places(), answer.weight()))
 }
 
 // What is told of a sheet.
 pub fn written(answer: Sheet) -> u64
-    requires { ⌜ Writing.bytesWritten answer < 2 ^ 32 ⌝ }
+    requires { ⌜ SheetFits answer ⌝ }
     ensures { λ r. ⌜ r ≡ toldSheet answer ⌝ }
 {
-    match answer {
-        Sheet::BadScalar => pack(1, 0),
-        Sheet::BadWindow => pack(2, 0),
-        Sheet::NoRoom => pack(3, 0),
-        Sheet::BadLimit => pack(4, 0),
-        Sheet::Written(length, _) => pack(0, length),
-    }
+    pack(
+        answer.number(),
+        join(answer.bytes(), answer.additions() as usize),
+    )
 }
 
 // What is told of a sheet that was read.
@@ -45,7 +35,15 @@ pub fn judged(answer: Judgement) -> u64
     }
 }
 
-// The number of the question missed in the high 32 bits, and the rest of the answer below it.
+// A length in bits 0 to 15, and what is counted in bits 16 to 31.
+fn join(length: usize, count: usize) -> usize
+    requires { ⌜ Fits length count ⌝ }
+    ensures { λ r. ⌜ (r ≡ joined length count) × (r < 2 ^ 32) ⌝ }
+{
+    count * 65536 + length
+}
+
+// The number of the question missed in bits 32 to 63, and the rest of the answer below it.
 fn pack(number: u32, rest: usize) -> u64
     requires { ⌜ rest < 2 ^ 32 ⌝ }
     ensures { λ r. ⌜ r ≡ packed number rest ⌝ }

@@ -16,10 +16,11 @@ use Rattle.digits.specs.Two.{Two, P, Q, of, two}
 use Rattle.forms.specs.Joint.{joint, digit, rest}
 use Rattle.forms.specs.Joint.Digit.{digit-mod, digit-fits, joint-rest-pos}
 use Rattle.recode.specs.declared.low.Low.{Low}
-use Rattle.recode.specs.Call.{filled}
+use Rattle.recode.specs.declared.answer.Recoded.the-variants.{Written}
+use Rattle.recode.specs.Call.{wroteColumns, filled}
 use Rattle.recode.specs.Body.Remainder.{remaining, Held}
 use Rattle.recode.proofs.LowRemainder.{Used, Without, remaining-new, remaining-shifted, still, remaining-zero, remaining-some, remaining-less, low-bits}
-use Rattle.recode.proofs.JointTurns.{Turn, relaid, start, skip, store, stop, room}
+use Rattle.recode.proofs.JointTurns.{Turn, relaid, light, start, skip, store, stop, room}
 
 -- what one of the two numbers needs: its digit comes from the lowest bits of both
 module _ (s o : Low) (d : ℤ) (of-lowest : d ≡ digit (pos (s .low % 64)) (pos (o .low % 64))) where
@@ -68,21 +69,21 @@ Going k-used l-used s t = (s .low ≡ 0 → s .at < k-used) ⊎ (t .low ≡ 0 �
 pub going-on : {s t s′ t′ : Low} {z : ℕ} (k-used l-used : ℕ) → Without s s′ z → Without t t′ z → Going k-used l-used s t → Going k-used l-used s′ t′
 going-on k-used l-used v w = ⊎-map (still v k-used) (still w l-used)
 
-pub record State (k l k-out₀ k-out l-out : List ℕ) (s t : Low) (place : ℕ) : Type 0 where
+pub record State (k l k-out₀ k-out l-out : List ℕ) (s t : Low) (place weight : ℕ) : Type 0 where
   pub k-held : Held s
   pub l-held : Held t
   -- both hold as many bits
   pub level : s .bits ≡ t .bits
   pub k-long : length k-out ≡ length k-out₀
   pub l-long : length l-out ≡ length k-out₀
-  pub turn : Turn (little k) (little l) (length k-out₀) (remaining k s) (remaining l t) (of k-out l-out) place
+  pub turn : Turn (little k) (little l) (length k-out₀) (remaining k s) (remaining l t) (of k-out l-out) place weight
 
 module _ {k l : List ℕ} {k-used l-used : ℕ} {k-out₀ l-out₀ : List ℕ} (g : Given k l k-used l-used k-out₀ l-out₀) where
-  moved : {k-out l-out : List ℕ} {place a b a′ b′ : ℕ} → a ≡ a′ → b ≡ b′ → Turn (little k) (little l) (length k-out₀) a b (of k-out l-out) place
-      → Turn (little k) (little l) (length k-out₀) a′ b′ (of k-out l-out) place
+  moved : {k-out l-out : List ℕ} {place weight a b a′ b′ : ℕ} → a ≡ a′ → b ≡ b′ → Turn (little k) (little l) (length k-out₀) a b (of k-out l-out) place weight
+      → Turn (little k) (little l) (length k-out₀) a′ b′ (of k-out l-out) place weight
   moved e f t = rw (e, f) at t
 
-  pub begin : (s t : Low) → (s .at ≡ 0) × ((s .bits ≡ 0) × (s .low ≡ 0)) → (t .at ≡ 0) × ((t .bits ≡ 0) × (t .low ≡ 0)) → State k l k-out₀ k-out₀ l-out₀ s t 0
+  pub begin : (s t : Low) → (s .at ≡ 0) × ((s .bits ≡ 0) × (s .low ≡ 0)) → (t .at ≡ 0) × ((t .bits ≡ 0) × (t .low ≡ 0)) → State k l k-out₀ k-out₀ l-out₀ s t 0 0
   begin s t e f =
       record {
         k-held = record { few = omega arith; low = omega arith };
@@ -100,15 +101,15 @@ module _ {k l : List ℕ} {k-used l-used : ℕ} {k-out₀ l-out₀ : List ℕ} (
       ⊎-elim (λ h. omega (arith, remaining-some k s k-used (g .k-bytes) (g .k-in-use) h))
       (λ h. omega (arith, remaining-some l t l-used (g .l-bytes) (g .l-in-use) h)) going
 
-  module _ {k-out l-out : List ℕ} {place : ℕ} where
+  module _ {k-out l-out : List ℕ} {place weight : ℕ} where
     -- the low bits are filled up
     pub refill : (s s′ t t′ : Low) → remaining k s′ ≡ remaining k s → Held s′ → remaining l t′ ≡ remaining l t → Held t′ → s′ .bits ≡ t′ .bits
-        → State k l k-out₀ k-out l-out s t place → State k l k-out₀ k-out l-out s′ t′ place
+        → State k l k-out₀ k-out l-out s t place weight → State k l k-out₀ k-out l-out s′ t′ place weight
     refill s s′ t t′ e h f h′ b st =
         record { k-held = h; l-held = h′; level = b; k-long = st .k-long; l-long = st .l-long; turn = moved (sym e) (sym f) (st .turn) }
 
-    pub finish : (s t : Low) → ((s .low ≡ 0) × (k-used ≤ s .at)) × ((t .low ≡ 0) × (l-used ≤ t .at)) → State k l k-out₀ k-out l-out s t place
-        → (place ≡ length (joint (pos (little k)) (pos (little l)))) × ((r : Two) → of k-out l-out r ≡ filled (Column.row two r (joint (pos (little k)) (pos (little l)))) (of k-out₀ l-out₀ r))
+    pub finish : (s t : Low) → ((s .low ≡ 0) × (k-used ≤ s .at)) × ((t .low ≡ 0) × (l-used ≤ t .at)) → State k l k-out₀ k-out l-out s t place weight
+        → (Written place weight ≡ wroteColumns (joint (pos (little k)) (pos (little l)))) × ((r : Two) → of k-out l-out r ≡ filled (Column.row two r (joint (pos (little k)) (pos (little l)))) (of k-out₀ l-out₀ r))
     finish s t e st =
         stop (little k) (little l) (length k-out₀) (g .fits) (of k-out₀ l-out₀) sizes
         (moved (remaining-zero k s k-used (g .k-in-use) (e .0)) (remaining-zero l t l-used (g .l-in-use) (e .1)) (st .turn))
@@ -119,7 +120,7 @@ module _ {k l : List ℕ} {k-used l-used : ℕ} {k-out₀ l-out₀ : List ℕ} (
 
     -- z zeros of both are skipped
     pub skipped : (s t s′ t′ : Low) (z : ℕ) → Without s s′ z → Without t t′ z → Going k-used l-used s t
-        → State k l k-out₀ k-out l-out s t place → State k l k-out₀ k-out l-out s′ t′ (place + z)
+        → State k l k-out₀ k-out l-out s t place weight → State k l k-out₀ k-out l-out s′ t′ (place + z) weight
     skipped s t s′ t′ z v w going st =
         record {
           k-held = v .shifted .0;
@@ -132,17 +133,21 @@ module _ {k l : List ℕ} {k-used l-used : ℕ} {k-out₀ l-out₀ : List ℕ} (
               (moved (remaining-shifted v k) (remaining-shifted w l) (st .turn));
         }
 
-    module _ (s t : Low) (going : Going k-used l-used s t) (st : State k l k-out₀ k-out l-out s t place) where
+    module _ (s t : Low) (going : Going k-used l-used s t) (st : State k l k-out₀ k-out l-out s t place weight) where
       pub inside : place < length k-out₀
       inside = room (little k) (little l) (length k-out₀) (g .fits) (some s t going) (st .turn)
 
-      -- a column is stored
-      pub stored : 3 ≤ s .bits → 3 ≤ t .bits → (c d : ℤ) → c ≡ digit (pos (s .low % 64)) (pos (t .low % 64)) → d ≡ digit (pos (t .low % 64)) (pos (s .low % 64))
+      -- no more columns count than there are places
+      pub few : weight ≤ place
+      few = light (little k) (little l) (length k-out₀) (g .fits) (st .turn)
+
+      -- a column is stored, where one of the remainders is odd
+      pub stored : 3 ≤ s .bits → 3 ≤ t .bits → 1 ≤ s .low % 2 + t .low % 2 → (c d : ℤ) → c ≡ digit (pos (s .low % 64)) (pos (t .low % 64)) → d ≡ digit (pos (t .low % 64)) (pos (s .low % 64))
           → (b e : ℕ) → b ≡ byteOf c → e ≡ byteOf d → (s′ t′ : Low)
           → Held s′ × ((s′ .at ≡ s .at) × ((s′ .bits + 1 ≡ s .bits) × (pos (s′ .low) ≡ half (pos (s .low) -ℤ c))))
           → Held t′ × ((t′ .at ≡ t .at) × ((t′ .bits + 1 ≡ t .bits) × (pos (t′ .low) ≡ half (pos (t .low) -ℤ d))))
-          → State k l k-out₀ (set k-out place b) (set l-out place e) s′ t′ (place + 1)
-      stored p q c d x y b e u v s′ t′ h h′ =
+          → State k l k-out₀ (set k-out place b) (set l-out place e) s′ t′ (place + 1) (weight + 1)
+      stored p q o c d x y b e u v s′ t′ h h′ =
           record {
             k-held = h .0;
             l-held = h′ .0;
@@ -151,7 +156,8 @@ module _ {k l : List ℕ} {k-used l-used : ℕ} {k-out₀ l-out₀ : List ℕ} (
             l-long = length-set l-out place e ∙ st .l-long;
             turn =
                 relaid sets
-                (store (little k) (little l) (length k-out₀) (g .fits) (of b e) (remaining k s′) (remaining l t′) (some s t going) bytes
+                (store (little k) (little l) (length k-out₀) (g .fits) (of b e) (remaining k s′) (remaining l t′) (some s t going)
+                (omega (arith, o, low-bits k s 1 (omega arith), low-bits l t 1 (omega arith))) bytes
                 (next s t c x k l p q s′ (h .1)) (next t s d y l k q p t′ (h′ .1)) (st .turn));
           }
         where

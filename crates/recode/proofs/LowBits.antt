@@ -6,7 +6,7 @@ use Prim.Native.Nat.{ℕ, zero, suc, _+_, _-_, _*_, _/_, _%_, _^_, _≤_, _<_}
 use native.Mathlib.Nat.{mul-le-mul-left, lt-of-not-le, le-of-suc-le-suc, mul-div-cancel-left, pow-suc, zero-div}
 use native.Mathlib.Numerals.{add-one, sub-one}
 use native.Mathlib.Omega.{arith}
-use lib.Bits.{bitOr, or-mod, or-add-and, and-le-l, and-le-r}
+use lib.Bits.{bitOr, or-step, or-mod, or-shr, or-add-and, and-le-l, and-le-r}
 use lib.Count.{trailingZeros, under}
 use lib.ListN.{length, getD, drop, drop-of-length-le}
 use lib.Pow.{pow-add, pow-pos, pow-mono, shl-exact, split}
@@ -92,6 +92,13 @@ shared-zeros a b z e =
     let y : ℕ = b % 2 ^ z in
     let none : bitOr x y ≡ 0 = sym (or-mod a b z) ∙ omega (arith, split (bitOr a b) z) in
     omega (arith, split a z, split b z, or-add-and x y, and-le-l x y, and-le-r x y)
+
+-- and above them one of both is odd, where the bits together are
+pub shared-one : (a b z : ℕ) → bitOr a b / 2 ^ z % 2 ≡ 1 → 1 ≤ a / 2 ^ z % 2 + b / 2 ^ z % 2
+shared-one a b z e =
+    let x : ℕ = a / 2 ^ z in
+    let y : ℕ = b / 2 ^ z in
+    omega (arith, or-shr a b z, or-step x y)
 
 -- dropping z zeros of b bits keeps the number within its bits
 shrunk : (b n z q k : ℕ) → n ≤ 2 ^ b + 31 → n ≡ 2 ^ z * q → k + z ≡ b → q ≤ 2 ^ k + 31

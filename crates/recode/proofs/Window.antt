@@ -40,27 +40,27 @@ module _ (m half : ℕ) (one : 1 ≤ m) (most : m ≤ 31) (is : half ≡ 2 ^ (wi
       let whole : 2 * half ≡ 2 ^ suc (width m - 1) = rw is (omega arith) in
       rw whole (and-mask x (suc (width m - 1)))
 
--- a half for an x from the limit on
-abbrev pub halfFrom : ℕ → ℕ → ℕ → ℕ
-halfFrom x limit half = cond (ltb x limit) 0 half
+-- a half for an x beyond the limit
+abbrev pub halfBeyond : ℕ → ℕ → ℕ → ℕ
+halfBeyond x limit half = cond (ltb limit x) half 0
 
-pub half-from : (x limit half r : ℕ) → (x < limit → r ≡ 0) × (limit ≤ x → r ≡ half) → r ≡ halfFrom x limit half
-half-from x limit half r e = go (ltb x limit) refl
+pub half-beyond : (x limit half r : ℕ) → (limit < x → r ≡ half) × (x ≤ limit → r ≡ 0) → r ≡ halfBeyond x limit half
+half-beyond x limit half r e = go (ltb limit x) refl
   where
-    go : (b : Bool) → ltb x limit ≡ b → r ≡ cond b 0 half
-    go true t = e .0 (ltb-true x limit t)
-    go false t = e .1 (ltb-false x limit t)
+    go : (b : Bool) → ltb limit x ≡ b → r ≡ cond b half 0
+    go true t = e .0 (ltb-true limit x t)
+    go false t = e .1 (ltb-false limit x t)
 
-pub half-most : (x limit half : ℕ) → halfFrom x limit half ≤ half
-half-most x limit half = go (ltb x limit)
+pub half-most : (x limit half : ℕ) → halfBeyond x limit half ≤ half
+half-most x limit half = go (ltb limit x)
   where
-    go : (b : Bool) → cond b 0 half ≤ half
+    go : (b : Bool) → cond b half 0 ≤ half
     go true = omega arith
     go false = omega arith
 
--- x modulo 2^W, less a half beyond m, and less another from 2^W − m on
+-- x modulo 2^W, less a half beyond m, and less another beyond 2^W − 1 − m
 abbrev pub chosen : ℕ → ℕ → ℕ → ℤ
-chosen m half low = pos low -ℤ pos (halfFrom low (m + 1) half + halfFrom low (2 * half - m) half)
+chosen m half low = pos low -ℤ pos (halfBeyond low m half + halfBeyond low (2 * half - 1 - m) half)
 
 table : (n : ℕ) → n < 31 → (i : ℕ) → i < 32
     → chosen (suc n) (2 ^ (width (suc n) - 1)) ((2 * i + 1) % (2 * 2 ^ (width (suc n) - 1))) ≡ digit (suc n) (pos (2 * i + 1))

@@ -1,6 +1,7 @@
 -- What the row and joint calls answer and leave in the buffers they are lent, for all input; and what they promise of the digits
 -- that stand there.
 pub mod Standing
+pub mod Short
 pub mod Row
 pub mod Joint
 use mathlib.Core.Path.{_≡_}
@@ -29,14 +30,28 @@ abbrev pub number : Recoded → ℕ
 number BadScalar = 1
 number BadWindow = 2
 number NoRoom = 3
-number (Written n) = 0
+number (Written n w) = 0
 
 -- how many places were written
 abbrev pub placesWritten : Recoded → ℕ
 placesWritten BadScalar = 0
 placesWritten BadWindow = 0
 placesWritten NoRoom = 0
-placesWritten (Written n) = n
+placesWritten (Written n w) = n
+
+-- how many of the digits written are not 0, and of a joint form how many columns
+abbrev pub weightWritten : Recoded → ℕ
+weightWritten BadScalar = 0
+weightWritten BadWindow = 0
+weightWritten NoRoom = 0
+weightWritten (Written n w) = w
+
+-- the answer of a call that has written a row, and of one that has written columns
+abbrev pub wroteRow : List ℤ → Recoded
+wroteRow ds = Written (length ds) (weight ds)
+
+abbrev pub wroteColumns : List Column → Recoded
+wroteColumns cs = Written (length cs) (Columns.weight two cs)
 
 -- 3. has the digit buffer at least 8 × bytes + 1 places?
 abbrev pub roomy : ℕ → ℕ → Bool
@@ -51,7 +66,7 @@ abbrev pub left : Recoded → List ℤ → List ℕ → List ℕ
 left BadScalar ds buffer = buffer
 left BadWindow ds buffer = buffer
 left NoRoom ds buffer = buffer
-left (Written n) ds buffer = filled ds buffer
+left (Written n w) ds buffer = filled ds buffer
 
 -- ── a row ───────────────────────────────────────────────────────────────────────────────────
 
@@ -59,17 +74,17 @@ left (Written n) ds buffer = filled ds buffer
 abbrev pub rowQuestion : Limits → List ℕ → ℕ → ℕ → ℕ
 rowQuestion limits s m places = missed ((1, sized limits s) ∷ (2, isWindow m) ∷ (3, roomy (length s) places) ∷ [])
 
--- the answer: the first question missed, or the row's length
+-- the answer: the first question missed, or the row's length and weight
 unfoldable pub rowAnswer : Limits → List ℕ → ℕ → ℕ → Recoded
 rowAnswer limits s m places =
-    cond (sized limits s) (cond (isWindow m) (cond (roomy (length s) places) (Written (length (row m (pos (scalar s))))) NoRoom) BadWindow) BadScalar
+    cond (sized limits s) (cond (isWindow m) (cond (roomy (length s) places) (wroteRow (row m (pos (scalar s)))) NoRoom) BadWindow) BadScalar
 
 -- the buffer
 unfoldable pub rowBuffer : Limits → List ℕ → ℕ → List ℕ → List ℕ
 rowBuffer limits s m buffer = left (rowAnswer limits s m (length buffer)) (row m (pos (scalar s))) buffer
 
--- what is promised of a row ds for the window m and the scalar c
-pub record RowOf (m c : ℕ) (ds : List ℤ) : Type 0 where
+-- what is promised of a row ds for the window m and the scalar c that is said to have the weight w
+pub record RowOf (m c w : ℕ) (ds : List ℤ) : Type 0 where
   -- it is 01's
   pub rule : RowRule m (pos c) ds
   -- its digits are the window's, it reads back to c, its top digit is not 0, and it has no more places than c's bit length plus one
@@ -77,15 +92,16 @@ pub record RowOf (m c : ℕ) (ds : List ℤ) : Type 0 where
   pub reads : value ds ≡ pos c
   pub top : (i : ℕ) → length ds ≡ suc i → getD ds i (pos 0) ≢ pos 0
   pub short : length ds ≤ bitLength c + 1
-  -- no row over the same digits has fewer non-zero ones
-  pub fewest : (es : List ℤ) → Over m es → value es ≡ pos c → weight ds ≤ weight es
+  -- w of its digits are not 0, and no row over the same digits has fewer such ones
+  pub counted : weight ds ≡ w
+  pub fewest : (es : List ℤ) → Over m es → value es ≡ pos c → w ≤ weight es
 
 -- where n places were written, the row below n is such a one
 abbrev pub RowPromised : ℕ → ℕ → Recoded → List ℕ → Type 0
 RowPromised m c BadScalar buffer = Unit {0}
 RowPromised m c BadWindow buffer = Unit {0}
 RowPromised m c NoRoom buffer = Unit {0}
-RowPromised m c (Written n) buffer = RowOf m c (rowBelow n buffer)
+RowPromised m c (Written n w) buffer = RowOf m c w (rowBelow n buffer)
 
 -- ── a joint form ────────────────────────────────────────────────────────────────────────────
 
@@ -94,12 +110,12 @@ abbrev pub jointQuestion : Limits → List ℕ → List ℕ → ℕ → ℕ → 
 jointQuestion limits s t places places′ =
     missed ((1, sized limits s) ∷ (1, sized limits t) ∷ (3, roomy (max (length s) (length t)) places) ∷ (3, roomy (max (length s) (length t)) places′) ∷ [])
 
--- the answer: the first question missed, or the length
+-- the answer: the first question missed, or the length and the weight
 unfoldable pub jointAnswer : Limits → List ℕ → List ℕ → ℕ → ℕ → Recoded
 jointAnswer limits s t places places′ =
     cond (sized limits s && sized limits t)
     (cond (roomy (max (length s) (length t)) places && roomy (max (length s) (length t)) places′)
-    (Written (length (joint (pos (scalar s)) (pos (scalar t)))))
+    (wroteColumns (joint (pos (scalar s)) (pos (scalar t))))
     NoRoom)
     BadScalar
 
@@ -109,8 +125,8 @@ jointBuffer limits r s t buffer buffer′ =
     left (jointAnswer limits s t (length buffer) (length buffer′)) (Columns.row two r (joint (pos (scalar s)) (pos (scalar t))))
     (of buffer buffer′ r)
 
--- what is promised of joint columns cs for k and l
-pub record JointOf (k l : ℕ) (cs : List Column) : Type 0 where
+-- what is promised of joint columns cs for k and l that are said to have the weight w
+pub record JointOf (k l w : ℕ) (cs : List Column) : Type 0 where
   -- they keep the joint sparse rules, the top one is not zero, they read back to k and l, and use at most one place more than the longer bit length
   pub keeps : Keeps cs
   pub topped : Topped cs
@@ -119,13 +135,14 @@ pub record JointOf (k l : ℕ) (cs : List Column) : Type 0 where
   pub short : length cs ≤ max (bitLength k) (bitLength l) + 1
   -- every list that does so is equal to them
   pub only : (ds : List Column) → Keeps ds → Topped ds → value (Columns.row two P ds) ≡ pos k → value (Columns.row two Q ds) ≡ pos l → ds ≡ cs
-  -- no column list over −1, 0, 1 for the same pair has fewer non-zero columns
+  -- w of them are not zero, and no column list over −1, 0, 1 for the same pair has fewer such ones
+  pub counted : Columns.weight two cs ≡ w
   pub fewest : (ds : List Column) → Columns.Small two ds → value (Columns.row two P ds) ≡ pos k → value (Columns.row two Q ds) ≡ pos l
-      → Columns.weight two cs ≤ Columns.weight two ds
+      → w ≤ Columns.weight two ds
 
 -- where n places were written, the columns below n are such ones
 abbrev pub JointPromised : ℕ → ℕ → Recoded → List ℕ → List ℕ → Type 0
 JointPromised k l BadScalar buffer buffer′ = Unit {0}
 JointPromised k l BadWindow buffer buffer′ = Unit {0}
 JointPromised k l NoRoom buffer buffer′ = Unit {0}
-JointPromised k l (Written n) buffer buffer′ = JointOf k l (columnsBelow n buffer buffer′)
+JointPromised k l (Written n w) buffer buffer′ = JointOf k l w (columnsBelow n buffer buffer′)

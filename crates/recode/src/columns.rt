@@ -12,7 +12,7 @@ ghost use Rattle.digits.specs.Two.{P, Q, two};
 ghost use Rattle.forms.specs.Joint;
 ghost use Rattle.recode.specs.Body.Remainder.{Held};
 ghost use Rattle.recode.specs.Body.Table.{DigitTable};
-ghost use Rattle.recode.specs.Call.{number, jointQuestion, jointAnswer, jointBuffer, JointPromised, filled};
+ghost use Rattle.recode.specs.Call.{number, wroteColumns, jointQuestion, jointAnswer, jointBuffer, JointPromised, filled};
 use crate::answer::Recoded;
 use crate::low::Low;
 
@@ -66,12 +66,13 @@ fn both_ended(k: Low, l: Low, k_used: usize, l_used: usize) -> bool
 fn both_zeros(k: Low, l: Low) -> u32
     requires { ⌜ (Held k × Held l) × ((k .bits ≡ l .bits) × (16 ≤ k .bits)) ⌝ }
     ensures { λ r. ⌜ (r ≤ k .bits) × ((k .low ≡ 2 ^ r * (k .low / 2 ^ r)) × (l .low ≡ 2 ^ r * (l .low / 2 ^ r))) ⌝ }
+    ensures { λ r. ⌜ (r < k .bits → 1 ≤ k .low / 2 ^ r % 2 + l .low / 2 ^ r % 2) ⌝ }
 {
     crate::low::zeros_of(k.low | l.low, k.bits)
 }
 
-// Writes the joint columns of two numbers' bytes into places that hold 0, and returns how many there are. `k_used` and
-// `l_used` count the bytes up to the top one that is not 0.
+// Writes the joint columns of two numbers' bytes into places that hold 0. `k_used` and `l_used` count the bytes up to the top
+// one that is not 0. Zero columns are skipped, so every column that is stored counts.
 fn write_columns(
     k: &[u8],
     l: &[u8],
@@ -79,23 +80,24 @@ fn write_columns(
     l_used: usize,
     k_out: &mut [u8],
     l_out: &mut [u8],
-) -> usize
+) -> Recoded
     requires { ⌜ («k_used» ≡ (bitLength (little (now k)) + 7) / 8) × («l_used» ≡ (bitLength (little (now l)) + 7) / 8) ⌝ }
     requires { ⌜ (now «k_out» ≡ replicate (length (now «k_out»)) 0) × (now «l_out» ≡ replicate (length (now «k_out»)) 0) ⌝ }
     requires { ⌜ length (Joint.joint (pos (little (now k))) (pos (little (now l)))) ≤ length (now «k_out») ⌝ }
-    ensures { λ r. ⌜ r ≡ length (Joint.joint (pos (little (now (k .entry)))) (pos (little (now (l .entry))))) ⌝ }
+    ensures { λ r. ⌜ r ≡ wroteColumns (Joint.joint (pos (little (now (k .entry)))) (pos (little (now (l .entry))))) ⌝ }
     ensures { λ _. ⌜ now («k_out» .exit) ≡ filled (Column.row two P (Joint.joint (pos (little (now (k .entry)))) (pos (little (now (l .entry)))))) (now («k_out» .entry)) ⌝ }
     ensures { λ _. ⌜ now («l_out» .exit) ≡ filled (Column.row two Q (Joint.joint (pos (little (now (k .entry)))) (pos (little (now (l .entry)))))) (now («l_out» .entry)) ⌝ }
 {
     let mut k_low = Low::new();
     let mut l_low = Low::new();
     let mut place = 0;
+    let mut weight = 0;
     let table = digit_table();
     loop {
         let k_full = k_low.filled(k);
         let l_full = l_low.filled(l);
         if both_ended(k_full, l_full, k_used, l_used) {
-            return place;
+            return Recoded::Written(place, weight);
         }
         let zeros = both_zeros(k_full, l_full);
         let k_odd = k_full.shifted(zeros);
@@ -115,6 +117,7 @@ fn write_columns(
         k_out[place] = digits::byte_of(k_digit as i8);
         l_out[place] = digits::byte_of(l_digit as i8);
         place += 1;
+        weight += 1;
     }
 }
 
@@ -125,12 +128,12 @@ fn larger(a: usize, b: usize) -> usize
     if a < b { b } else { a }
 }
 
-// Writes the joint columns of two scalars, a row into each buffer, and zeros above them, and returns how many there are. Of
-// each buffer only the places up to the longer bit length plus one are lent to the digits.
-fn write_joint(k: &[u8], l: &[u8], k_out: &mut [u8], l_out: &mut [u8]) -> usize
+// Writes the joint columns of two scalars, a row into each buffer, and zeros above them. Of each buffer only the places up to
+// the longer bit length plus one are lent to the digits.
+fn write_joint(k: &[u8], l: &[u8], k_out: &mut [u8], l_out: &mut [u8]) -> Recoded
     requires { ⌜ (length (now k) ≤ 66) × (length (now l) ≤ 66) ⌝ }
     requires { ⌜ (8 * max (length (now k)) (length (now l)) + 1 ≤ length (now «k_out»)) × (8 * max (length (now k)) (length (now l)) + 1 ≤ length (now «l_out»)) ⌝ }
-    ensures { λ r. ⌜ r ≡ length (Joint.joint (pos (Scalar.scalar (now (k .entry)))) (pos (Scalar.scalar (now (l .entry))))) ⌝ }
+    ensures { λ r. ⌜ r ≡ wroteColumns (Joint.joint (pos (Scalar.scalar (now (k .entry)))) (pos (Scalar.scalar (now (l .entry))))) ⌝ }
     ensures { λ _. ⌜ now («k_out» .exit) ≡ filled (Column.row two P (Joint.joint (pos (Scalar.scalar (now (k .entry)))) (pos (Scalar.scalar (now (l .entry)))))) (now («k_out» .entry)) ⌝ }
     ensures { λ _. ⌜ now («l_out» .exit) ≡ filled (Column.row two Q (Joint.joint (pos (Scalar.scalar (now (k .entry)))) (pos (Scalar.scalar (now (l .entry)))))) (now («l_out» .entry)) ⌝ }
 {
@@ -169,7 +172,7 @@ pub fn joint(k: &[u8], l: &[u8], k_digits: &mut [u8], l_digits: &mut [u8]) -> Re
         if l_digits.len() < room {
             return Recoded::NoRoom;
         }
-        return Recoded::Written(write_joint(k, l, k_digits, l_digits));
+        return write_joint(k, l, k_digits, l_digits);
     }
     Recoded::BadScalar
 }

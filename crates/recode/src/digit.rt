@@ -14,22 +14,23 @@ pub fn half_of(m: u16) -> u16
     1u16 << (16 - u16::leading_zeros(m))
 }
 
-// A half for an x from the limit on.
-fn half_from(x: u16, limit: u16, half: u16) -> u16
-    ensures { λ r. ⌜ (x < limit → r ≡ 0) × (limit ≤ x → r ≡ half) ⌝ }
+// A half for an x beyond the limit.
+fn half_beyond(x: u16, limit: u16, half: u16) -> u16
+    ensures { λ r. ⌜ (limit < x → r ≡ half) × (x ≤ limit → r ≡ 0) ⌝ }
 {
-    if x < limit { 0 } else { half }
+    if limit < x { half } else { 0 }
 }
 
 // The digit of an odd x below 64 for the window m, whose 2^(W−1) is half: x modulo 2^W, less a half beyond m, and less
-// another from 2^W − m on.
+// another beyond 2^W − 1 − m.
 pub fn digit_of(x: u16, m: u16, half: u16) -> i16
     requires { ⌜ (x < 64) × ((x % 2 ≡ 1) × ((1 ≤ m) × ((m ≤ widest) × (half ≡ 2 ^ (width m - 1))))) ⌝ }
     ensures { λ r. ⌜ r ≡ digit m (pos x) ⌝ }
 {
-    let low = x & (2 * half - 1);
-    let first = half_from(low, m + 1, half);
-    let second = half_from(low, 2 * half - m, half);
+    let all = 2 * half - 1;
+    let low = x & all;
+    let first = half_beyond(low, m, half);
+    let second = half_beyond(low, all - m, half);
     low as i16 - (first + second) as i16
 }
 

@@ -62,7 +62,12 @@ impl Low {
         let at = self.at;
         let bits = self.bits;
         if 16 <= bits {
-            return self;
+            // Made anew, since the compiler keeps it in registers then, and `self` in memory.
+            return Low {
+                at: at,
+                bits: bits,
+                low: self.low,
+            };
         }
         if bytes.len() <= at {
             return Low {

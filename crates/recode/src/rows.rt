@@ -9,7 +9,7 @@ ghost use Rattle.digits.specs.Scalar;
 ghost use Rattle.digits.specs.Scalar.{little, bitLength};
 ghost use Rattle.forms.specs.Residue.{width};
 ghost use Rattle.forms.specs.Row.{row};
-ghost use Rattle.recode.specs.Call.{number, rowQuestion, rowAnswer, rowBuffer, RowPromised, filled};
+ghost use Rattle.recode.specs.Call.{number, wroteRow, rowQuestion, rowAnswer, rowBuffer, RowPromised, filled};
 use crate::answer::Recoded;
 use crate::low::Low;
 
@@ -24,21 +24,28 @@ pub fn ended(low: Low, used: usize) -> bool
     false
 }
 
-// Writes the row of the bytes' number into places that hold 0, and returns its length. `used` counts the bytes up to the
-// top one that is not 0, and half is 2^(W−1) of the window m.
-fn write_digits(bytes: &[u8], used: usize, m: u16, half: u16, out: &mut [u8]) -> usize
+// Writes the row of the bytes' number into places that hold 0. `used` counts the bytes up to the top one that is not 0, and
+// half is 2^(W−1) of the window m. Zeros are skipped, so every digit that is stored counts.
+fn write_digits(bytes: &[u8], used: usize, m: u16, half: u16, out: &mut [u8]) -> Recoded
     requires { ⌜ (1 ≤ m) × ((m ≤ widest) × (half ≡ 2 ^ (width m - 1))) ⌝ }
     requires { ⌜ used ≡ (bitLength (little (now bytes)) + 7) / 8 ⌝ }
     requires { ⌜ (now out ≡ replicate (length (now out)) 0) × (length (row m (pos (little (now bytes)))) ≤ length (now out)) ⌝ }
-    ensures { λ r. ⌜ r ≡ length (row m (pos (little (now (bytes .entry))))) ⌝ }
+    ensures { λ r. ⌜ r ≡ wroteRow (row m (pos (little (now (bytes .entry))))) ⌝ }
     ensures { λ _. ⌜ now (out .exit) ≡ filled (row m (pos (little (now (bytes .entry))))) (now (out .entry)) ⌝ }
 {
     let mut low = Low::new();
     let mut place = 0;
+    let mut weight = 0;
     loop {
         let full = low.filled(bytes);
         if ended(full, used) {
-            return place;
+            return Recoded::Written(place, weight);
+        }
+        // Where no bit is set, all are skipped: on a path of its own, so that `zeros` asks for nothing.
+        if full.low == 0 {
+            place += full.bits as usize;
+            low = full.shifted(full.bits);
+            continue;
         }
         let zeros = full.zeros();
         let odd = full.shifted(zeros);
@@ -52,6 +59,7 @@ fn write_digits(bytes: &[u8], used: usize, m: u16, half: u16, out: &mut [u8]) ->
         let next = odd.less(digit);
         low = next;
         place += 1;
+        weight += 1;
     }
 }
 
@@ -64,11 +72,11 @@ pub fn bits_of(scalar: &[u8]) -> usize
     8 * length.below + length.top as usize
 }
 
-// Writes the scalar's row for the window m and zeros above it, and returns the row's length. Of the buffer only the places
-// up to the bit length plus one are lent to the digits.
-fn write_row(scalar: &[u8], m: u16, out: &mut [u8]) -> usize
+// Writes the scalar's row for the window m and zeros above it. Of the buffer only the places up to the bit length plus one
+// are lent to the digits.
+fn write_row(scalar: &[u8], m: u16, out: &mut [u8]) -> Recoded
     requires { ⌜ (length (now scalar) ≤ 66) × ((1 ≤ m) × ((m ≤ widest) × (8 * length (now scalar) + 1 ≤ length (now out)))) ⌝ }
-    ensures { λ r. ⌜ r ≡ length (row m (pos (Scalar.scalar (now (scalar .entry))))) ⌝ }
+    ensures { λ r. ⌜ r ≡ wroteRow (row m (pos (Scalar.scalar (now (scalar .entry))))) ⌝ }
     ensures { λ _. ⌜ now (out .exit) ≡ filled (row m (pos (Scalar.scalar (now (scalar .entry))))) (now (out .entry)) ⌝ }
 {
     let bits = bits_of(scalar);
@@ -92,7 +100,7 @@ pub fn row(scalar: &[u8], m: u32, digits: &mut [u8]) -> Recoded
             if digits.len() < 8 * scalar.len() + 1 {
                 return Recoded::NoRoom;
             }
-            return Recoded::Written(write_row(scalar, m as u16, digits));
+            return write_row(scalar, m as u16, digits);
         }
         return Recoded::BadWindow;
     }

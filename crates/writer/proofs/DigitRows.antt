@@ -1,4 +1,4 @@
--- After the row or joint calls the two buffers hold the plan's digits: from the calls' contracts, for scalars and windows that
+-- After the row or joint calls the two buffers hold the plan's digits, and the calls tell how many there are: from the calls' contracts, for scalars and windows that
 -- meet questions 1 and 2.
 use mathlib.Core.Path.{_≡_, refl, sym, ap, ap₂, subst, _∙_}
 use mathlib.Core.Bool.{true, _&&_}
@@ -13,6 +13,7 @@ use Rattle.digits.specs.Byte.{byteOf}
 use Rattle.digits.specs.Scalar.{Bytes}
 use Rattle.digits.specs.Column.{row, Small}
 use Rattle.digits.specs.Limits.{card}
+use Rattle.digits.specs.Row as Rows
 use Rattle.digits.specs.Row.{Digit, Over, isWindow}
 use Rattle.digits.specs.Scalar.{scalar, sized}
 use Rattle.digits.specs.Two.{Column, Two, P, Q, digit, two, blankColumn}
@@ -20,14 +21,15 @@ use Rattle.forms.specs.Joint.{joint}
 use Rattle.forms.specs.Joint.Value.{joint-small}
 use Rattle.forms.specs.Row as Row
 use Rattle.forms.specs.Row.Value.{row-digits}
-use Rattle.recode.specs.Call.{roomy, placesWritten, filled, left, rowAnswer, rowBuffer, jointAnswer, jointBuffer}
+use Rattle.recode.specs.Call.{roomy, placesWritten, weightWritten, wroteRow, wroteColumns, filled, left, rowAnswer, rowBuffer, jointAnswer, jointBuffer}
 use Rattle.recode.specs.declared.answer.Recoded.{Recoded}
-use Rattle.recode.specs.declared.answer.Recoded.the-variants.{Written}
+use Rattle.sheet.specs.declared.Plan.{Plan}
 use Rattle.sheet.specs.declared.Plan.the-variants.{J, I}
+use Rattle.sheet.specs.Digits.{weight}
 use Rattle.sheet.specs.Plan.{point}
 use Rattle.sheet.specs.Questions.Planned.{window-of}
 use Rattle.sheet.specs.Sound.{Window}
-use Rattle.written.specs.Written.Columns.{paired-at, paired-length}
+use Rattle.written.specs.Written.Columns.{paired-at, paired-length, paired-weight}
 use Rattle.written.specs.Valid.{window-positive}
 use Rattle.written.specs.Written.{digits}
 use Rattle.digits.specs.Byte.{signed}
@@ -62,6 +64,10 @@ in-bounds s h e = bounded s h e
 room-enough : (n : ℕ) → n ≤ 66 → roomy n 529 ≡ true
 room-enough n h = le-leb (8 * n + 1) 529 (omega arith)
 
+-- the places of a plan's digits, and how many of them the plan counts
+abbrev pub Counts : Plan → ℕ → ℕ → ℕ → ℕ → Type 0
+Counts plan k l places counted = (places ≡ length (digits plan k l)) × (counted ≡ weight plan (digits plan k l))
+
 -- ── the joint form ──────────────────────────────────────────────────────────────────────────
 
 small-at : (cs : List Column) → Small two cs → (i : ℕ) (r : Two) → natAbs (digit (getD cs i blankColumn) r) ≤ 1
@@ -76,16 +82,18 @@ row-at cs i P = List·getD-map (λ (c : Column). digit c P) cs i blankColumn
 row-at cs i Q = List·getD-map (λ (c : Column). digit c Q) cs i blankColumn
 
 module _ (k l : List ℕ) (sizes : (sized card k && sized card l) ≡ true) where
-  joint-answer : jointAnswer card k l 529 529 ≡ Written (length (joint (pos (scalar k)) (pos (scalar l))))
+  joint-answer : jointAnswer card k l 529 529 ≡ wroteColumns (joint (pos (scalar k)) (pos (scalar l)))
   unfolding jointAnswer
   joint-answer =
       let (a, b) = both (sized card k) (sized card l) sizes in
       let m : max (length k) (length l) ≤ 66 = omega (arith, some-bytes card k a .1, some-bytes card l b .1) in
       rw (a, b, room-enough (max (length k) (length l)) m)
 
-  pub joint-places : {r : Recoded} {places : ℕ} → r ≡ jointAnswer card k l 529 529 → places ≡ placesWritten r → places ≡ length (digits J (scalar k) (scalar l))
+  -- the length and the weight that the joint call returns
+  pub joint-counts : {r : Recoded} {places counted : ℕ} → r ≡ jointAnswer card k l 529 529 → places ≡ placesWritten r → counted ≡ weightWritten r
+      → Counts J (scalar k) (scalar l) places counted
   unfolding digits
-  joint-places e f = f ∙ ap placesWritten (e ∙ joint-answer)
+  joint-counts e f g = (f ∙ ap placesWritten (e ∙ joint-answer), g ∙ ap weightWritten (e ∙ joint-answer))
 
 module _ (k l p q : List ℕ) (sizes : (sized card k && sized card l) ≡ true) (p-long : length p ≡ 529) (q-long : length q ≡ 529) where
   buffer-row : (r : Two) (b : List ℕ) → jointBuffer card r k l p q ≡ b → (u : List ℕ) → jointBuffer card r k l p q ≡ filled (row two r (joint (pos (scalar k)) (pos (scalar l)))) u
@@ -125,12 +133,13 @@ over-at (d ∷ ds) (Over.more x o) zero = digit-small x
 over-at (d ∷ ds) (Over.more x o) (suc i) = over-at ds o i
 
 module _ (s : List ℕ) (m : ℕ) (size : sized card s ≡ true) (window : isWindow m ≡ true) where
-  row-answer : rowAnswer card s m 529 ≡ Written (length (Row.row m (pos (scalar s))))
+  row-answer : rowAnswer card s m 529 ≡ wroteRow (Row.row m (pos (scalar s)))
   unfolding rowAnswer
   row-answer = rw (size, window, room-enough (length s) (some-bytes card s size .1))
 
-  row-places : {r : Recoded} {n : ℕ} → r ≡ rowAnswer card s m 529 → n ≡ placesWritten r → n ≡ length (Row.row m (pos (scalar s)))
-  row-places e f = f ∙ ap placesWritten (e ∙ row-answer)
+  row-counts : {r : Recoded} → r ≡ rowAnswer card s m 529
+      → (placesWritten r ≡ length (Row.row m (pos (scalar s)))) × (weightWritten r ≡ Rows.weight (Row.row m (pos (scalar s))))
+  row-counts e = (ap placesWritten (e ∙ row-answer), ap weightWritten (e ∙ row-answer))
 
 module _ (s : List ℕ) (m : ℕ) (b : List ℕ) (size : sized card s ≡ true) (window : isWindow m ≡ true) (long : length b ≡ 529) where
   row-filled : rowBuffer card s m b ≡ filled (Row.row m (pos (scalar s))) b
@@ -145,14 +154,19 @@ module _ (s : List ℕ) (m : ℕ) (b : List ℕ) (size : sized card s ≡ true) 
       ∙ digit-at ds b i (omega (arith, over-at ds (row-digits m (pos (scalar s)) (window-positive w)) i, w .within))
 
 module _ (k l : List ℕ) (m1 m2 : ℕ) (sizes : (sized card k && sized card l) ≡ true) (windows : (isWindow m1 && isWindow m2) ≡ true) where
-  pub rows-places : {r s : Recoded} {a b n : ℕ} → r ≡ rowAnswer card k m1 529 → s ≡ rowAnswer card l m2 529 → a ≡ placesWritten r → b ≡ placesWritten s → n ≡ max a b
-      → n ≡ length (digits (I m1 m2) (scalar k) (scalar l))
+  -- the longer of the two lengths, and the weights together
+  pub rows-counts : {r s : Recoded} {places counted : ℕ} → r ≡ rowAnswer card k m1 529 → s ≡ rowAnswer card l m2 529
+      → places ≡ max (placesWritten r) (placesWritten s) → counted ≡ weightWritten r + weightWritten s → Counts (I m1 m2) (scalar k) (scalar l) places counted
   unfolding digits
-  rows-places e f g h x =
+  rows-counts e f g h =
       let (u, v) = both (sized card k) (sized card l) sizes in
       let (w, y) = both (isWindow m1) (isWindow m2) windows in
-      x ∙ ap₂ max (row-places k m1 u w e g) (row-places l m2 v y f h)
-      ∙ sym (paired-length (Row.row m1 (pos (scalar k))) (Row.row m2 (pos (scalar l))))
+      let first = row-counts k m1 u w e in
+      let second = row-counts l m2 v y f in
+      let heavy = paired-weight (Row.row m1 (pos (scalar k))) (Row.row m2 (pos (scalar l))) in (
+        g ∙ ap₂ max (first .0) (second .0) ∙ sym (paired-length (Row.row m1 (pos (scalar k))) (Row.row m2 (pos (scalar l)))),
+        h ∙ ap₂ (λ (a b : ℕ). a + b) (first .1 ∙ sym (heavy .0)) (second .1 ∙ sym (heavy .1)),
+      )
 
 module _ (k l p q : List ℕ) (m1 m2 : ℕ) (sizes : (sized card k && sized card l) ≡ true) (windows : (isWindow m1 && isWindow m2) ≡ true) (p-long : length p ≡ 529) (q-long : length q ≡ 529) where
   -- the buffers hold the two rows

@@ -1,15 +1,12 @@
--- One turn of the loop over the places below the top, and of the loop that counts their steps, over plain values.
-use mathlib.Core.Path.{_≡_, sym, ap, _∙_}
+-- One turn of the loop over the places below the top, over plain values.
+use mathlib.Core.Path.{_≡_, ap, _∙_}
 use mathlib.Core.List.{List, [], _∷_, _++_}
-use Prim.Native.Nat.{ℕ, suc, _+_, _-_, _*_, _≤_, _<_}
-use native.Mathlib.Numerals.{add-one}
+use Prim.Native.Nat.{ℕ, suc, _+_, _-_, _≤_, _<_}
 use native.Mathlib.Omega.{arith}
 use Rattle.sheet.specs.declared.Plan.{Plan}
-use Rattle.sheet.specs.Digits.{weight}
 use Rattle.sheet.specs.Spelling.{lineFeed}
-use Rattle.sheet.specs.Digits.Accepted.{weigh, weight-none, weight-more}
 use Rattle.written.specs.Written.{placeSteps}
-use Rattle.writer.specs.Body.Parts.{Put, Room, stepsBytes, columnAt, columnsDown}
+use Rattle.writer.specs.Body.Parts.{Put, Room, stepsBytes, columnAt}
 use Rattle.writer.proofs.Puts.{Progress, begun, advance, finished, progress-same, progress-room, room-first}
 use Rattle.writer.proofs.StepBytes.{movesBytes, moves-none, moves-more}
 
@@ -47,19 +44,3 @@ module _ (plan : Plan) (p q : List ℕ) (top : ℕ) (out₀ : List ℕ) (at : �
 
         pub move-turn : {out2 : List ℕ} {next2 : ℕ} → Put out1 out2 next1 next2 (stepsBytes 65 (placeSteps plan (columnAt p q (i - 1)))) → Moving plan p q top out₀ out2 at next2 (i - 1)
         move-turn r = (omega (arith, s .0), advance (movesBytes plan p q (i - 1)) r begins)
-
--- what the plan counts of the places below i
-abbrev pub Weighed : Plan → List ℕ → List ℕ → ℕ → ℕ → Type 0
-Weighed plan p q n i = (n ≡ weight plan (columnsDown p q i)) × (n ≤ 2 * i)
-
-module _ (plan : Plan) (p q : List ℕ) where
-  pub weigh-start : Weighed plan p q 0 0
-  unfolding columnsDown
-  weigh-start = (sym (weight-none plan), omega arith)
-
-  pub weigh-turn : (n i : ℕ) → Weighed plan p q n i → (w : ℕ) → (w ≡ weigh plan (columnAt p q i)) × (w ≤ 2) → Weighed plan p q (n + w) (i + 1)
-  unfolding columnsDown
-  weigh-turn n i s w e = (
-    omega (arith, s .0, e .0, weight-more plan (columnAt p q i) (columnsDown p q i), ap (λ (j : ℕ). weight plan (columnsDown p q j)) (add-one i)),
-    omega (arith, s .1, e .1),
-  )

@@ -1,7 +1,7 @@
 -- The bytes of a written sheet, part by part, from the rows that hold its digits: header, T lines, steps, E.
 use mathlib.Core.Path.{_≡_, refl, sym, ap, ap₂, subst, _∙_}
 use mathlib.Core.Bool.{not}
-use mathlib.Core.List.{List, [], _∷_, _++_, map, reverse, reverseAux, reverse-append, append-assoc}
+use mathlib.Core.List.{List, [], _∷_, _++_, map, reverse, reverse-append, append-assoc}
 use Prim.Native.Nat.{ℕ, zero, suc, _+_, _-_, _≤_}
 use native.Mathlib.Nat.{le-trans}
 use native.Mathlib.Omega.{arith}
@@ -13,19 +13,17 @@ use Rattle.forms.specs.Joint.{Topped}
 use Rattle.sheet.specs.declared.Largest.{Largest}
 use Rattle.sheet.specs.declared.Plan.{Plan}
 use Rattle.sheet.specs.declared.Plan.the-variants.{J, I}
-use Rattle.sheet.specs.Digits.{weight}
 use Rattle.sheet.specs.Line.{Header, Line, header, table, end}
 use Rattle.sheet.specs.Numeral.{numeral}
 use Rattle.sheet.specs.Plan.{Point, slots, tables, tableAdditions, tableDoublings, largest}
 use Rattle.sheet.specs.Questions.{doublings}
 use Rattle.sheet.specs.Sound.{Steps, stepLines, sheetLines}
 use Rattle.sheet.specs.Spelling.{comma, lineFeed, kind, join, spell}
-use Rattle.written.specs.Promise.{written-fits, written-cost, written-places, written-header, written-doublings}
+use Rattle.written.specs.Promise.{written-fits, written-cost, written-few, written-places, written-header, written-doublings}
 use Rattle.written.specs.Written.Lengths.{spell-append}
 use Rattle.written.specs.Written.Columns.{digits-top}
 use Rattle.written.specs.Written.{digits, kindOf, first, second, heading, stepsDown, stepsOf, writtenLines, writtenAdditions, written}
 use Rattle.writer.specs.Body.Parts.{columnAt, columnsDown, lettersOf, decimalsOf, scalarsOf, headerBytes, Holds, Bounded, Ready}
-use Rattle.sheet.specs.Digits.Accepted.{weight-none, weight-more}
 
 -- ── the header ──────────────────────────────────────────────────────────────────────────────
 
@@ -85,14 +83,6 @@ module _ (p q : List ℕ) (cs : List Column) (held : Holds p q cs) where
   pub top-held : Topped cs → (top : ℕ) → length cs ≡ suc top → T (not (blank (columnAt p q top)))
   top-held t top e = subst (λ (c : Column). T (not (blank c))) (sym (held .columns top)) (t top e)
 
-weight-turned : (plan : Plan) (xs ys : List Column) → weight plan (reverseAux xs ys) ≡ weight plan xs + weight plan ys
-weight-turned plan [] ys = omega (arith, weight-none plan)
-weight-turned plan (c ∷ xs) ys =
-    omega (arith, weight-turned plan xs (c ∷ ys), weight-more plan c xs, weight-more plan c ys)
-
-weight-reverse : (plan : Plan) (cs : List Column) → weight plan (reverse cs) ≡ weight plan cs
-weight-reverse plan cs = omega (arith, weight-turned plan cs [], weight-none plan)
-
 -- ── the sheet ───────────────────────────────────────────────────────────────────────────────
 
 end-bytes : spell (end ∷ []) ≡ 69 ∷ lineFeed ∷ []
@@ -114,7 +104,7 @@ partsOf plan a d k l p q places =
     headerBytes (heading plan a d k l)
     ++ (spell (map table (tables plan)) ++ (spell (stepLines (stepsDown plan (columnsDown p q places))) ++ (69 ∷ lineFeed ∷ [])))
 
-module _ {plan : Plan} {k l : ℕ} {p q : List ℕ} {places : ℕ} {out : List ℕ} (g : Ready plan k l p q places out) where
+module _ {plan : Plan} {k l : ℕ} {p q : List ℕ} {places counted : ℕ} {out : List ℕ} (g : Ready plan k l p q places counted out) where
   all-below : columnsDown p q places ≡ reverse (digits plan k l)
   all-below = ap (columnsDown p q) (g .long) ∙ columns-below p q (digits plan k l) (g .held)
 
@@ -125,12 +115,19 @@ module _ {plan : Plan} {k l : ℕ} {p q : List ℕ} {places : ℕ} {out : List �
   pub top-full : (top : ℕ) → places ≡ suc top → T (not (blank (columnAt p q top)))
   top-full top e = top-held p q (digits plan k l) (g .held) (digits-top k l (g .valid)) top (sym (g .long) ∙ e)
 
-  -- what is counted are the additions and the doublings of the sheet
-  pub additions-are : (t w r : ℕ) → t ≡ tableAdditions plan → w ≡ weight plan (columnsDown p q places) → r ≡ w - 1 → t + r ≡ writtenAdditions plan k l
+  -- the table's additions and those of the digits are the sheet's
+  cost : tableAdditions plan + (counted - 1) ≡ writtenAdditions plan k l
   unfolding Bounded
-  additions-are t w r e f h =
-      ap₂ (λ (x y : ℕ). x + y) e (h ∙ ap (λ (n : ℕ). n - 1) (f ∙ ap (weight plan) all-below ∙ weight-reverse plan (digits plan k l)))
-      ∙ sym (written-cost plan k l (g .valid) (g .k-bounded) (g .l-bounded))
+  cost = ap (λ (n : ℕ). tableAdditions plan + (n - 1)) (g .heavy) ∙ sym (written-cost plan k l (g .valid) (g .k-bounded) (g .l-bounded))
+
+  -- so the plan counts few
+  pub few-counted : tableAdditions plan + (counted - 1) ≤ 1088
+  unfolding Bounded
+  few-counted = omega (arith, cost, written-few plan k l (g .valid) (g .k-bounded) (g .l-bounded))
+
+  -- what is added up are the additions and the doublings of the sheet
+  pub additions-are : (t r : ℕ) → t ≡ tableAdditions plan → r ≡ counted - 1 → t + r ≡ writtenAdditions plan k l
+  additions-are t r e f = ap₂ (λ (x y : ℕ). x + y) e f ∙ cost
 
   pub doublings-are : (u r : ℕ) → u ≡ tableDoublings plan → r ≡ places - 1 → u + r ≡ doublings (writtenLines plan k l)
   doublings-are u r e f = ap₂ (λ (x y : ℕ). x + y) e (f ∙ ap (λ (n : ℕ). n - 1) (g .long)) ∙ sym (written-doublings plan k l (g .valid))

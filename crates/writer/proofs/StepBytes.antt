@@ -6,15 +6,13 @@ use mathlib.Core.List.{List, [], _∷_, _++_, append-assoc, append-nil}
 use Prim.Native.Nat.{ℕ, zero, suc, _+_, _-_, _≤_}
 use native.Mathlib.Omega.{arith}
 use lib.Dec.{T, ltb, eqb}
-use lib.IntN.{ℤ, pos, negsuc}
+use lib.IntN.{pos, negsuc}
 use lib.ListN.{length, length-append}
 use borrow.Author.Tests.{ne-eqb}
-use Rattle.digits.specs.Row.{count}
 use Rattle.digits.specs.Column.{counted}
 use Rattle.digits.specs.Two.{Column, isZero, blank}
 use Rattle.sheet.specs.declared.Plan.{Plan}
 use Rattle.sheet.specs.declared.Plan.the-variants.{J, I}
-use Rattle.sheet.specs.Digits.Accepted.{weigh}
 use Rattle.sheet.specs.Line.{Line, table, load, add}
 use Rattle.sheet.specs.Plan.{Point, point}
 use Rattle.sheet.specs.Sound.{Moves, moveLines, stepLines}
@@ -49,17 +47,6 @@ blank-first p q e = go q ∙ sym (ap (λ (t : Bool). t && isZero (signed q)) (ze
 
 pub blank-not : (p q : ℕ) → p ≢ 0 → false ≡ blank (point (signed p) (signed q))
 blank-not p q h = sym (ap (λ (t : Bool). t && isZero (signed q)) (zero-not p h))
-
-pub count-zero : (b : ℕ) → b ≡ 0 → 0 ≡ count (signed b)
-count-zero b e = sym (ap (λ (n : ℕ). count (signed n)) e)
-
-count-full : (z : ℤ) → isZero z ≡ false → 1 ≡ count z
-count-full (pos zero) e = let h : _≡_ {A = ℕ} 0 1 = cc in absurd (omega arith)
-count-full (pos (suc n)) e = refl
-count-full (negsuc n) e = refl
-
-pub count-some : (b : ℕ) → b ≢ 0 → 1 ≡ count (signed b)
-count-some b h = count-full (signed b) (zero-not b h)
 
 -- ── the steps of a place ────────────────────────────────────────────────────────────────────
 
@@ -184,11 +171,3 @@ all-steps plan p q top h =
 pub no-places : (plan : Plan) (p q : List ℕ) (places : ℕ) → places ≡ 0 → spell (stepLines (stepsDown plan (columnsDown p q places))) ≡ []
 unfolding columnsDown spell
 no-places plan p q places e = ap (λ (n : ℕ). spell (stepLines (stepsDown plan (columnsDown p q n)))) e
-
--- ── what a plan counts ──────────────────────────────────────────────────────────────────────
-
-pub weighed-none : (c : Column) → blank c ≡ true → 0 ≡ weigh J c
-weighed-none c e = sym (ap counted e)
-
-pub weighed-one : (c : Column) → blank c ≡ false → 1 ≡ weigh J c
-weighed-one c e = sym (ap counted e)

@@ -6,13 +6,11 @@ ghost use lib.ListN.{length, drop};
 ghost use Rattle.digits.specs.Limits.{card};
 ghost use Rattle.digits.specs.Row.{isWindow};
 ghost use Rattle.digits.specs.Scalar.{scalar, sized};
-ghost use Rattle.recode.specs.Call.{placesWritten};
 ghost use Rattle.sheet.specs.declared.Plan.the-variants.{J, I};
 ghost use Rattle.written.specs.Written.{written};
 ghost use Rattle.writer.specs.Call.{number, wrote, SheetPromised, jQuestion, jAnswer, jBuffer, iQuestion, iAnswer, iBuffer};
 use crate::answer::Sheet;
 use crate::write::PLACES;
-use recode::Recoded;
 use sheet::Plan;
 
 // The bytes of a sheet buffer.
@@ -53,18 +51,6 @@ pub fn plan_i(k: &[u8], l: &[u8], m1: u32, m2: u32, sheet: &mut [u8]) -> Sheet
     Sheet::BadScalar
 }
 
-// How many places were written.
-fn places_of(recoded: Recoded) -> usize
-    ensures { λ r. ⌜ r ≡ placesWritten recoded ⌝ }
-{
-    match recoded {
-        Recoded::BadScalar => 0,
-        Recoded::BadWindow => 0,
-        Recoded::NoRoom => 0,
-        Recoded::Written(places) => places,
-    }
-}
-
 // The larger of two numbers.
 fn larger(a: usize, b: usize) -> usize
     ensures { λ r. ⌜ r ≡ max a b ⌝ }
@@ -80,8 +66,10 @@ fn write_j(k: &[u8], l: &[u8], sheet: &mut [u8]) -> Sheet
 {
     let mut p = [0u8; PLACES];
     let mut q = [0u8; PLACES];
-    let places = places_of(recode::joint(k, l, &mut p, &mut q));
-    crate::write::write_sheet(sheet, Plan::J, k, l, &p, &q, places)
+    let form = recode::joint(k, l, &mut p, &mut q);
+    let places = form.places();
+    let weight = form.weight();
+    crate::write::write_sheet(sheet, Plan::J, k, l, &p, &q, places, weight)
 }
 
 // Writes the sheet of plan I.
@@ -92,8 +80,9 @@ fn write_i(k: &[u8], l: &[u8], m1: u32, m2: u32, sheet: &mut [u8]) -> Sheet
 {
     let mut p = [0u8; PLACES];
     let mut q = [0u8; PLACES];
-    let first = places_of(recode::row(k, m1, &mut p));
-    let second = places_of(recode::row(l, m2, &mut q));
-    let places = larger(first, second);
-    crate::write::write_sheet(sheet, Plan::I(m1, m2), k, l, &p, &q, places)
+    let first = recode::row(k, m1, &mut p);
+    let second = recode::row(l, m2, &mut q);
+    let places = larger(first.places(), second.places());
+    let weight = first.weight() + second.weight();
+    crate::write::write_sheet(sheet, Plan::I(m1, m2), k, l, &p, &q, places, weight)
 }

@@ -1,14 +1,11 @@
 ghost use mathlib.Core.Path.{_≡_};
 ghost use mathlib.Core.Bool.{not};
 ghost use mathlib.Core.List.{_∷_, [], _++_};
-ghost use Prim.Native.Nat.{suc, _*_, _<_, _≤_};
+ghost use Prim.Native.Nat.{suc, _<_, _≤_};
 ghost use lib.Dec.{T};
 ghost use lib.IntN.{pos};
-ghost use Rattle.digits.specs.Row;
 ghost use Rattle.digits.specs.Two;
-ghost use Rattle.sheet.specs.Digits.{weight};
 ghost use Rattle.sheet.specs.Plan.{point};
-ghost use Rattle.sheet.specs.Digits.Accepted.{weigh};
 ghost use Rattle.sheet.specs.Sound.{moveLines, stepLines};
 ghost use Rattle.sheet.specs.Spelling.{lineFeed, spell};
 ghost use Rattle.written.specs.Written.{unlessZero, placeSteps, movesOf, stepsDown};
@@ -113,40 +110,4 @@ pub fn put_all(
 {
     let next = put_steps(out, at, plan, b'L', p[top], q[top]);
     put_moves(out, next, plan, p, q, top)
-}
-
-// 1 for a digit that is not 0.
-fn count(digit: u8) -> u32
-    ensures { λ r. ⌜ (r ≡ Row.count (signed digit)) × (r ≤ 1) ⌝ }
-{
-    if digit == 0 { 0 } else { 1 }
-}
-
-// What the plan counts of a place.
-fn weigh_place(plan: Plan, p: u8, q: u8) -> u32
-    ensures { λ r. ⌜ (r ≡ weigh plan (point (signed p) (signed q))) × (r ≤ 2) ⌝ }
-{
-    match plan {
-        Plan::J => {
-            if blank(p, q) {
-                return 0;
-            }
-            1
-        }
-        Plan::I(_, _) => count(p) + count(q),
-    }
-}
-
-// What the plan counts of all places.
-pub fn weigh(plan: Plan, p: &[u8; PLACES], q: &[u8; PLACES], places: usize) -> u32
-    requires { ⌜ places ≤ 529 ⌝ }
-    ensures { λ r. ⌜ (r ≡ weight plan (columnsDown (now (p .entry)) (now (q .entry)) places)) × (r ≤ 2 * places) ⌝ }
-{
-    let mut weight = 0;
-    let mut i = 0;
-    while i < places {
-        weight += weigh_place(plan, p[i], q[i]);
-        i += 1;
-    }
-    weight
 }

@@ -45,7 +45,8 @@ fn put_places(
     crate::steps::put_all(out, at, plan, p, q, places - 1)
 }
 
-// Writes the sheet of two scalars for a plan, of whose digits the two rows hold the bytes.
+// Writes the sheet of two scalars for a plan, of whose digits the two rows hold the bytes. They have so many places, and the weight is
+// what the plan counts of them.
 pub fn write_sheet(
     out: &mut [u8],
     plan: Plan,
@@ -54,13 +55,13 @@ pub fn write_sheet(
     p: &[u8; PLACES],
     q: &[u8; PLACES],
     places: usize,
+    weight: usize,
 ) -> Sheet
-    requires { ⌜ Ready plan (scalar (now k)) (scalar (now l)) (now p) (now q) places (now out) ⌝ }
+    requires { ⌜ Ready plan (scalar (now k)) (scalar (now l)) (now p) (now q) places weight (now out) ⌝ }
     ensures { λ r. ⌜ r ≡ Sheet.Written (length (written plan (scalar (now (k .entry))) (scalar (now (l .entry))))) (writtenAdditions plan (scalar (now (k .entry))) (scalar (now (l .entry)))) ⌝ }
     ensures { λ _. ⌜ now (out .exit) ≡ written plan (scalar (now (k .entry))) (scalar (now (l .entry))) ++ drop (length (written plan (scalar (now (k .entry))) (scalar (now (l .entry))))) (now (out .entry)) ⌝ }
 {
-    let weight = crate::steps::weigh(plan, p, q, places);
-    let additions = plan.table_additions() + less_one(weight);
+    let additions = plan.table_additions() + less_one(weight as u32);
     let doublings = plan.table_doublings() + less_one(places as u32);
     let a = crate::header::put_header(out, 0, plan, additions, doublings, k, l);
     let b = crate::tables::put_tables(out, a, plan);

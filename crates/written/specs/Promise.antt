@@ -57,6 +57,10 @@ pub written-cost : (p : Plan) (k l : ℕ) → Valid p → k < 2 ^ 528 → l < 2 
     → writtenAdditions p k l ≡ tableAdditions p + (weight p (digits p k l) - 1)
 written-cost p k l v h g = Within.cost-within p k l v card 528 card-enough h g
 
+-- there are at most 1,088 of them
+pub written-few : (p : Plan) (k l : ℕ) → Valid p → k < 2 ^ 528 → l < 2 ^ 528 → writtenAdditions p k l ≤ 1088
+written-few p k l v h g = Within.few-within p k l v card 528 card-enough h g
+
 -- its digits have at most 529 places
 pub written-places : (p : Plan) (k l : ℕ) → Valid p → k < 2 ^ 528 → l < 2 ^ 528 → length (digits p k l) ≤ 529
 written-places p k l v h g = Within.places p k l v card 528 card-enough h g

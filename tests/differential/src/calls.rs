@@ -1,9 +1,10 @@
 //! The seven calls: their questions in order, their answers, and how a call is printed and read
 //! back.
 
+use crate::answer::Answer;
 use crate::cheapest::Weights;
 use crate::plan::{Plan, MOST_SLOTS};
-use crate::reader::{self, Refusal, LONGEST_SHEET};
+use crate::reader::{self, LONGEST_SHEET};
 use crate::scalars::{self, MOST_BYTES};
 use crate::sheet::Sheet;
 use crate::{codes, joint, row};
@@ -52,82 +53,6 @@ pub enum Call {
     },
 }
 
-/// The answer to a call.
-#[derive(Clone, PartialEq, Eq, Debug)]
-pub enum Answer {
-    /// The number of the question missed; the line is 0 for all calls but the reader.
-    Refused(Refusal),
-    /// One row.
-    Row(Vec<i8>),
-    /// Two rows over the same places.
-    Columns(Vec<i8>, Vec<i8>),
-    /// Two rows over the same places, and the codes of each.
-    Coded {
-        k_row: Vec<i8>,
-        l_row: Vec<i8>,
-        k_codes: Vec<u8>,
-        l_codes: Vec<u8>,
-    },
-    Sheet(Vec<u8>),
-    /// The reader accepts.
-    Accepted,
-}
-
-impl Answer {
-    pub fn refused(number: u32, line: usize) -> Answer {
-        Answer::Refused(Refusal { number, line })
-    }
-
-    /// The number that the C call returns: the question missed in the high 32 bits; in the low
-    /// ones the length, or the line.
-    pub fn code(&self) -> u64 {
-        match self {
-            Answer::Refused(Refusal { number, line }) => u64::from(*number) << 32 | *line as u64,
-            Answer::Row(digits)
-            | Answer::Columns(digits, _)
-            | Answer::Coded { k_row: digits, .. } => digits.len() as u64,
-            Answer::Sheet(bytes) => bytes.len() as u64,
-            Answer::Accepted => 0,
-        }
-    }
-
-    /// What the buffers hold after the call, given what they held before.
-    pub fn leave_in(&self, buffers: &mut [Vec<u8>]) {
-        match (self, buffers) {
-            (Answer::Row(digits), [buffer]) => leave_digits(digits, buffer),
-            (Answer::Columns(k_row, l_row), [k_buffer, l_buffer]) => {
-                leave_digits(k_row, k_buffer);
-                leave_digits(l_row, l_buffer);
-            }
-            (
-                Answer::Coded { k_row, l_row, k_codes, l_codes },
-                [k_digits, l_digits, k_buffer, l_buffer],
-            ) => {
-                leave_digits(k_row, k_digits);
-                leave_digits(l_row, l_digits);
-                leave_bytes(k_codes, k_buffer);
-                leave_bytes(l_codes, l_buffer);
-            }
-            (Answer::Sheet(bytes), [buffer]) => buffer[..bytes.len()].copy_from_slice(bytes),
-            (Answer::Refused(_) | Answer::Accepted, _) => {}
-            _ => unreachable!("every answer has its own number of buffers"),
-        }
-    }
-}
-
-/// The digits in two's complement; the unused places hold 0.
-fn leave_digits(digits: &[i8], buffer: &mut [u8]) {
-    let bytes: Vec<u8> = digits.iter().map(|&digit| digit as u8).collect();
-    leave_bytes(&bytes, buffer);
-}
-
-/// The bytes, and 0 at the unused places.
-fn leave_bytes(bytes: &[u8], buffer: &mut [u8]) {
-    let (used, unused) = buffer.split_at_mut(bytes.len());
-    used.copy_from_slice(bytes);
-    unused.fill(0);
-}
-
 impl Call {
     /// The reference's answer.
     pub fn answer(&self) -> Answer {
@@ -156,7 +81,7 @@ impl Call {
             }
             Call::Cheapest { k, l, limit, .. } => {
                 let weights = Weights::of(scalars::value(k), scalars::value(l));
-                Answer::Sheet(weights.cheapest_sheet(*limit as usize).to_bytes())
+                Answer::sheet(&weights.cheapest_sheet(*limit as usize))
             }
             Call::Read { sheet } => match reader::read(sheet) {
                 Ok(()) => Answer::Accepted,
@@ -231,7 +156,7 @@ impl Call {
 }
 
 fn sheet(plan: Plan, k: &[u8], l: &[u8]) -> Answer {
-    Answer::Sheet(Sheet::of_plan(plan, scalars::value(k), scalars::value(l)).to_bytes())
+    Answer::sheet(&Sheet::of_plan(plan, scalars::value(k), scalars::value(l)))
 }
 
 fn has_length(scalar: &[u8]) -> bool {
@@ -348,15 +273,5 @@ mod tests {
             let words: Vec<&str> = printed.split(' ').collect();
             assert_eq!(parse(&words), Some(call));
         }
-    }
-
-    #[test]
-    fn unused_places_hold_zero() {
-        let mut buffers = [vec![9; 5]];
-        Answer::Row(vec![-1, 0, 1]).leave_in(&mut buffers);
-        assert_eq!(buffers[0], [255, 0, 1, 0, 0]);
-        let mut buffers = [vec![9; 5]];
-        Answer::Sheet(b"E\n".to_vec()).leave_in(&mut buffers);
-        assert_eq!(buffers[0], *b"E\n\x09\x09\x09");
     }
 }

@@ -1,14 +1,16 @@
 //! Calls at the edges, each with the answer that the scope document asks for: leading zeros and the
-//! longest scalars, runs of ones, and the questions, each missed by itself and then with others
-//! that come after it.
+//! longest scalars, the heaviest forms, runs of ones, and the questions, each missed by itself and
+//! then with others that come after it.
 
-use crate::calls::{Answer, Call};
+use crate::answer::Answer;
+use crate::calls::Call;
 use crate::samples::SEVEN_AND_TWO;
 use crate::scalars;
 
 pub fn all() -> Vec<(Call, Answer)> {
     let mut edges = rows();
     edges.extend(joint_forms());
+    edges.extend(dense());
     edges.extend(runs_of_ones());
     edges.extend(row_refusals());
     edges.extend(joint_refusals());
@@ -41,6 +43,21 @@ fn joint_forms() -> Vec<(Call, Answer)> {
             Answer::Columns(sparse(529, &[(1, 1)]), carried.clone()),
         ),
         (joint(&[255; 66], &[255; 66], 529, 600), Answer::Columns(carried.clone(), carried)),
+    ]
+}
+
+/// As many digits, and as many columns, that are not zero as the rules allow.
+fn dense() -> Vec<(Call, Answer)> {
+    let row_digit = |place| match place {
+        528 => 1,
+        _ if place % 2 == 0 => -1,
+        _ => 0,
+    };
+    let every_third = |first| (0..527).map(|place| i8::from(place % 3 == first)).collect();
+    let (k, l) = scalars::dense_pair();
+    vec![
+        (row(&scalars::dense(), 1, 529), Answer::Row((0..529).map(row_digit).collect())),
+        (joint(&k, &l, 529, 529), Answer::Columns(every_third(0), every_third(1))),
     ]
 }
 
@@ -150,14 +167,14 @@ fn cheapest_sheets() -> Vec<(Call, Answer)> {
     let cheapest = |limit, room| Call::Cheapest { k: vec![7], l: vec![2], limit, room };
     let forty_five = |limit| Call::Cheapest { k: vec![45], l: vec![0], limit, room: 16_384 };
     vec![
-        (cheapest(30, 16_384), sheet(SEVEN_AND_TWO)),
-        (cheapest(31, 16_384), sheet(SEVEN_AND_TWO)),
+        (cheapest(30, 16_384), sheet(SEVEN_AND_TWO, 2)),
+        (cheapest(31, 16_384), sheet(SEVEN_AND_TWO, 2)),
         (cheapest(32, 16_384), refused(4)),
         (cheapest(31, 16_383), refused(3)),
         (cheapest(32, 16_383), refused(4)),
         // Windows 3, 1 need two slots: one for 3P, one for 2P.
-        (forty_five(1), sheet(FORTY_FIVE_BY_WINDOW_1)),
-        (forty_five(2), sheet(FORTY_FIVE_BY_WINDOW_3)),
+        (forty_five(1), sheet(FORTY_FIVE_BY_WINDOW_1, 3)),
+        (forty_five(2), sheet(FORTY_FIVE_BY_WINDOW_3, 2)),
     ]
 }
 
@@ -185,8 +202,8 @@ fn sparse(places: usize, digits: &[(usize, i8)]) -> Vec<i8> {
     row
 }
 
-fn sheet(text: &str) -> Answer {
-    Answer::Sheet(text.as_bytes().to_vec())
+fn sheet(text: &str, additions: usize) -> Answer {
+    Answer::Sheet { bytes: text.as_bytes().to_vec(), additions }
 }
 
 fn read(sheet: &str) -> Call {

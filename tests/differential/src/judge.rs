@@ -3,7 +3,8 @@
 use crate::host;
 use crate::lent::Lent;
 use crate::outcome::{Claim, Outcome};
-use reference::calls::{Answer, Call};
+use reference::answer::Answer;
+use reference::calls::Call;
 use reference::random::Random;
 use std::fmt::{Arguments, Debug};
 
@@ -39,7 +40,7 @@ impl Judge {
     }
 
     /// Makes the call, compares it whole with the reference's answer, and holds a number found in
-    /// its outcome against one found by other means.
+    /// its outcome, and the same one answered, against one found by other means.
     pub fn compare_claiming(&mut self, call: &Call, claim: &dyn Fn(&Outcome) -> Claim) {
         let fill = self.fills.number();
         self.compare_filled(call, &call.answer(), fill, Some(claim));

@@ -1,6 +1,7 @@
 //! A second implementation of the double-and-add sheets, written from the scope document alone.
 //! The differential test compares the library with it.
 
+pub mod answer;
 pub mod big;
 pub mod calls;
 pub mod card;

@@ -1,7 +1,8 @@
 //! Outcomes of calls, and how a failed comparison is printed.
 
 use crate::lent::Lent;
-use reference::calls::{Answer, Call};
+use reference::answer::Answer;
+use reference::calls::Call;
 
 /// The number that a call returned and what its buffers hold after it.
 #[derive(PartialEq, Eq)]
@@ -10,18 +11,22 @@ pub struct Outcome {
     pub buffers: Vec<Vec<u8>>,
 }
 
-/// A number of the outcome, and what it has to be.
+/// A weight or a number of additions: what it has to be, what the buffers come to, and what the
+/// call answered.
 pub struct Claim {
     pub what: &'static str,
     pub expected: usize,
-    pub got: usize,
+    pub counted: usize,
+    pub answered: usize,
 }
 
 impl Claim {
     /// What was expected and what was got, where they differ.
     pub fn difference(&self) -> Option<(String, String)> {
-        let say = |number| format!("{} {number}", self.what);
-        (self.expected != self.got).then(|| (say(self.expected), say(self.got)))
+        let Claim { what, expected, counted, answered } = self;
+        let differ = counted != expected || answered != expected;
+        let got = || format!("{what} {counted} counted, {answered} answered");
+        differ.then(|| (format!("{what} {expected}"), got()))
     }
 }
 
@@ -43,14 +48,49 @@ impl Outcome {
         self.code >> 32
     }
 
+    /// The length that a call other than the reader returned.
+    pub fn length(&self) -> usize {
+        usize::from(self.code as u16)
+    }
+
+    /// The weight that a call for a row or for a joint form returned.
+    pub fn weight(&self) -> usize {
+        usize::from((self.code >> 16) as u16)
+    }
+
+    /// The additions that a call for a sheet returned.
+    pub fn additions(&self) -> usize {
+        usize::from((self.code >> 16) as u16)
+    }
+
+    /// The line that the reader returned.
+    pub fn line(&self) -> u32 {
+        self.code as u32
+    }
+
     /// The sheet that the call wrote, if it returned the length of one.
     pub fn sheet(&self) -> Option<&[u8]> {
-        self.buffers.first()?.get(..usize::try_from(self.code).ok()?)
+        let buffer = self.buffers.first().filter(|_| self.number() == 0)?;
+        buffer.get(..self.length())
+    }
+
+    /// The parts of the number that the call returned.
+    fn parts(&self, call: &Call) -> String {
+        let (number, length) = (self.number(), self.length());
+        match call {
+            Call::Row { .. } | Call::Joint { .. } | Call::JointCodes { .. } => {
+                format!("number {number}, length {length}, weight {}", self.weight())
+            }
+            Call::PlanJ { .. } | Call::PlanI { .. } | Call::Cheapest { .. } => {
+                format!("number {number}, length {length}, additions {}", self.additions())
+            }
+            Call::Read { .. } => format!("number {number}, line {}", self.line()),
+        }
     }
 
     /// The outcome in words, with the buffers as far as they matter beside the other outcome.
     pub fn beside(&self, other: &Outcome, call: &Call) -> String {
-        let mut words = format!("number {}, length or line {}", self.number(), self.code as u32);
+        let mut words = self.parts(call);
         for (mine, others) in self.buffers.iter().zip(&other.buffers) {
             let differ = mine.iter().zip(others).rposition(|(mine, others)| mine != others);
             let written = self.sheet().into_iter().chain(other.sheet()).map(<[u8]>::len).max();

@@ -1,7 +1,8 @@
 //! The samples that the scope document and the source documents print, each as a call and the
 //! answer it names.
 
-use crate::calls::{Answer, Call};
+use crate::answer::Answer;
+use crate::calls::Call;
 
 /// What a sample says of the answer to its call.
 pub enum Says {
@@ -20,8 +21,8 @@ impl Says {
         match (self, answer) {
             (Says::Whole(whole), _) => whole == answer,
             (Says::Places(places), Answer::Row(digits)) => digits.len() == *places,
-            (Says::Header(header), Answer::Sheet(sheet)) => {
-                sheet.starts_with(format!("{header}\n").as_bytes())
+            (Says::Header(header), Answer::Sheet { bytes, .. }) => {
+                bytes.starts_with(format!("{header}\n").as_bytes())
             }
             (Says::Passes, _) => !matches!(answer, Answer::Refused(_)),
             _ => false,
@@ -102,7 +103,7 @@ fn bounds() -> Vec<(Call, Says)> {
 }
 
 fn orders() -> Vec<(Call, Says)> {
-    let seven_and_two = Answer::Sheet(SEVEN_AND_TWO.as_bytes().to_vec());
+    let seven_and_two = Answer::Sheet { bytes: SEVEN_AND_TWO.as_bytes().to_vec(), additions: 2 };
     vec![
         (cheapest(3, 0, 1, 16_384), Says::Header("S,I,1,1,0,1,2,3,0")),
         (cheapest(7, 2, 0, 16_384), Says::Whole(seven_and_two)),

@@ -148,6 +148,20 @@ pub fn patterned() -> Vec<Vec<u8>> {
     scalars
 }
 
+/// A scalar whose row for window 1 has as many digits that are not 0 as any: every second one, from
+/// place 0 to place 528.
+pub fn dense() -> Vec<u8> {
+    let mut scalar = vec![0xaa; MOST_BYTES];
+    flip(&mut scalar, 0);
+    scalar
+}
+
+/// Two scalars whose joint form has two columns that are not zero in every three.
+pub fn dense_pair() -> (Vec<u8>, Vec<u8>) {
+    let repeated = |three: [u8; 3]| three.repeat(MOST_BYTES / 3);
+    (repeated([0x24, 0x92, 0x49]), repeated([0x49, 0x24, 0x92]))
+}
+
 /// A small scalar in one byte.
 pub fn small(value: u8) -> Vec<u8> {
     vec![value]

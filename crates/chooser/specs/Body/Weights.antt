@@ -1,7 +1,7 @@
 -- The weights that decide the cost of each plan within a limit: of each scalar's row for the windows, and of the joint form.
 use mathlib.Core.Bool.{cond}
-use mathlib.Core.List.{List, [], _∷_, map}
-use Prim.Native.Nat.{ℕ, zero, suc, _+_}
+use mathlib.Core.List.{List, map}
+use Prim.Native.Nat.{ℕ}
 use lib.IntN.{pos}
 use Rattle.digits.specs.Column as Columns
 use Rattle.digits.specs.Row as Rows
@@ -11,22 +11,6 @@ use Rattle.forms.specs.Row.{row}
 use Rattle.sheet.specs.declared.Plan.the-variants.{J, I}
 use Rattle.sheet.specs.Plan.{isWithin}
 use Rattle.chooser.specs.Cheapest.{windows}
-
--- 1 for a number that is not 0
-abbrev pub marked : ℕ → ℕ
-marked zero = 0
-marked (suc n) = 1
-
--- how many of the numbers are not 0
-unfoldable pub nonzero : List ℕ → ℕ
-nonzero [] = 0
-nonzero (b ∷ bs) = marked b + nonzero bs
-
--- how many of the places are not 0 in one list or the other
-unfoldable pub nonzeroPairs : List ℕ → List ℕ → ℕ
-nonzeroPairs [] t = nonzero t
-nonzeroPairs (a ∷ s) [] = marked a + nonzeroPairs s []
-nonzeroPairs (a ∷ s) (b ∷ t) = marked (a + b) + nonzeroPairs s t
 
 -- the weight of a scalar's row for a window that a plan within the limit can have, at least with 1 for the other; 0 for another
 abbrev pub rowWeight : ℕ → ℕ → ℕ → ℕ

@@ -10,12 +10,12 @@ use lib.ListN.{length}
 use Rattle.digits.specs.Limits.{Limits}
 use Rattle.digits.specs.Scalar.{scalar, sized}
 use Rattle.digits.specs.Scalar.Sized.{both}
-use Rattle.digits.specs.Two.{P, Q}
+use Rattle.digits.specs.Two.{Column, P, Q}
 use Rattle.forms.specs.Joint.{joint}
-use Rattle.recode.specs.Call.{number, roomy, filled, left, jointAnswer}
+use Rattle.recode.specs.Call.{number, wroteColumns, roomy, filled, left, jointAnswer}
 use Rattle.recode.specs.Call.Joint.{digitsOf}
 use Rattle.recode.specs.declared.answer.Recoded.{Recoded}
-use Rattle.recode.specs.declared.answer.Recoded.the-variants.{BadScalar, NoRoom, Written}
+use Rattle.recode.specs.declared.answer.Recoded.the-variants.{BadScalar, NoRoom}
 use Rattle.codes.specs.Call.{codesQuestion, ifRoomy, codesAnswer, codesOf, coded, leftCodes, codesDigits, codesBuffer, CodesPromised}
 use Rattle.codes.specs.Call.Standing.{codes-question, codes-promised}
 
@@ -58,17 +58,17 @@ module _ (limits : Limits) (s t k l kc lc : List ℕ) where
   module _ (sizes : (sized limits s && sized limits t) ≡ true) where
     -- where question 1 is met
     answered : (met : Bool) → rooms (8 * max (length s) (length t) + 1) k l kc lc ≡ met
-        → codesAnswer limits s t (length k) (length l) (length kc) (length lc) ≡ cond met (Written (length (joint (pos (scalar s)) (pos (scalar t))))) NoRoom
+        → codesAnswer limits s t (length k) (length l) (length kc) (length lc) ≡ cond met (wroteColumns (joint (pos (scalar s)) (pos (scalar t)))) NoRoom
     unfolding codesAnswer jointAnswer
     answered met e = rw (sizes, ← e) (joined (roomy longer (length k) && roomy longer (length l)) (roomy longer (length kc) && roomy longer (length lc)))
       where
         longer : ℕ
         longer = max (length s) (length t)
 
-        n : ℕ
-        n = length (joint (pos (scalar s)) (pos (scalar t)))
+        cs : List Column
+        cs = joint (pos (scalar s)) (pos (scalar t))
 
-        joined : (a b : Bool) → ifRoomy b (cond a (Written n) NoRoom) ≡ cond (a && b) (Written n) NoRoom
+        joined : (a b : Bool) → ifRoomy b (cond a (wroteColumns cs) NoRoom) ≡ cond (a && b) (wroteColumns cs) NoRoom
         joined true b = refl
         joined false b = refl
 
@@ -76,7 +76,7 @@ module _ (limits : Limits) (s t k l kc lc : List ℕ) where
     no-room e = returned NoRoom (answered false e)
 
     pub written : (a : Recoded) (k′ l′ kc′ lc′ : List ℕ) → rooms (8 * max (length s) (length t) + 1) k l kc lc ≡ true
-        → a ≡ Written (length (joint (pos (scalar s)) (pos (scalar t))))
+        → a ≡ wroteColumns (joint (pos (scalar s)) (pos (scalar t)))
         → k′ ≡ filled (digitsOf P s t) k → l′ ≡ filled (digitsOf Q s t) l → kc′ ≡ coded (codesOf P s t) kc → lc′ ≡ coded (codesOf Q s t) lc
         → Returned a k′ l′ kc′ lc′
-    written a k′ l′ kc′ lc′ h e f g i j = rw (e, f, g, i, j) (returned (Written (length (joint (pos (scalar s)) (pos (scalar t))))) (answered true h))
+    written a k′ l′ kc′ lc′ h e f g i j = rw (e, f, g, i, j) (returned (wroteColumns (joint (pos (scalar s)) (pos (scalar t)))) (answered true h))

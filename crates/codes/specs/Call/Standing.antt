@@ -12,13 +12,13 @@ use Rattle.digits.specs.Buffer.Read.{column-row}
 use Rattle.digits.specs.Buffer.Zeros.{padded-at}
 use Rattle.digits.specs.Limits.{Limits}
 use Rattle.digits.specs.Scalar.{scalar, sized}
-use Rattle.digits.specs.Two.{Two, P, Q, other, of}
+use Rattle.digits.specs.Two.{Column, Two, P, Q, other, of}
 use Rattle.forms.specs.Codes.{digits, remainderAt, codes}
 use Rattle.forms.specs.Joint.{joint}
 use Rattle.forms.specs.Joint.Value.{joint-small}
 use Rattle.forms.specs.Promise.{joint-value, joint-keeps, joint-top, remainder-is, codes-held, codes-digits}
 use Rattle.forms.specs.Test.{rows}
-use Rattle.recode.specs.Call.{number, roomy, filled, left, jointAnswer, jointBuffer}
+use Rattle.recode.specs.Call.{number, wroteColumns, roomy, filled, left, jointAnswer, jointBuffer}
 use Rattle.recode.specs.Call.Joint.{digitsOf}
 use Rattle.recode.specs.Promise.{joint-written, joint-only}
 use Rattle.recode.specs.declared.answer.Recoded.{Recoded}
@@ -55,11 +55,11 @@ module _ (limits : Limits) (s t : List ℕ) where
       longer : ℕ
       longer = max (length s) (length t)
 
-      n : ℕ
-      n = length (joint (pos (scalar s)) (pos (scalar t)))
+      cs : List Column
+      cs = joint (pos (scalar s)) (pos (scalar t))
 
       go : (a b c d e f : Bool)
-          → number (ifRoomy (e && f) (cond (a && b) (cond (c && d) (Written n) NoRoom) BadScalar)) ≡ cond a (cond b (cond c (cond d (cond e (cond f 0 3) 3) 3) 3) 1) 1
+          → number (ifRoomy (e && f) (cond (a && b) (cond (c && d) (wroteColumns cs) NoRoom) BadScalar)) ≡ cond a (cond b (cond c (cond d (cond e (cond f 0 3) 3) 3) 3) 1) 1
       go true true true true true true = refl
       go true true true true true false = refl
       go true true true true false f = refl
@@ -73,43 +73,43 @@ module _ (limits : Limits) (s t : List ℕ) where
     answer = codesAnswer limits s t (length k) (length l) (length kc) (length lc)
 
     -- where it writes, a joint call with the same digit buffers answers the same, and leaves the same rows
-    pub codes-joint : (n : ℕ) → answer ≡ Written n
-        → (jointAnswer limits s t (length k) (length l) ≡ Written n) × ((r : Two) → codesDigits limits r s t k l kc lc ≡ jointBuffer limits r s t k l)
+    pub codes-joint : (n w : ℕ) → answer ≡ Written n w
+        → (jointAnswer limits s t (length k) (length l) ≡ Written n w) × ((r : Two) → codesDigits limits r s t k l kc lc ≡ jointBuffer limits r s t k l)
     unfolding codesAnswer codesDigits jointBuffer
-    codes-joint n e = (f, λ r. ap (λ (a : Recoded). left a (digitsOf r s t) (of k l r)) (e ∙ sym f))
+    codes-joint n w e = (f, λ r. ap (λ (a : Recoded). left a (digitsOf r s t) (of k l r)) (e ∙ sym f))
       where
-        if-written : (met : Bool) (a : Recoded) → ifRoomy met a ≡ Written n → a ≡ Written n
+        if-written : (met : Bool) (a : Recoded) → ifRoomy met a ≡ Written n w → a ≡ Written n w
         if-written met BadScalar e = e
         if-written met BadWindow e = e
         if-written met NoRoom e = e
-        if-written true (Written m) e = e
-        if-written false (Written m) e = absurd (omega (arith, ap number e))
+        if-written true (Written m v) e = e
+        if-written false (Written m v) e = absurd (omega (arith, ap number e))
 
-        f : jointAnswer limits s t (length k) (length l) ≡ Written n
+        f : jointAnswer limits s t (length k) (length l) ≡ Written n w
         f = if-written (roomy (max (length s) (length t)) (length kc) && roomy (max (length s) (length t)) (length lc)) (jointAnswer limits s t (length k) (length l)) e
 
     -- the length is that of the joint form, and the buffers are filled
-    codes-filled : (n : ℕ) → answer ≡ Written n
+    codes-filled : (n w : ℕ) → answer ≡ Written n w
         → (n ≡ length (joint (pos (scalar s)) (pos (scalar t))))
         × ((r : Two) → (codesDigits limits r s t k l kc lc ≡ filled (digitsOf r s t) (of k l r)) × (codesBuffer limits r s t k l kc lc ≡ coded (codesOf r s t) (of kc lc r)))
     unfolding codesDigits codesBuffer
-    codes-filled n e =
+    codes-filled n w e =
         let a : ℤ = pos (scalar s) in
         let b : ℤ = pos (scalar t) in (
-          joint-only limits s t k l n (joint a b) (joint-keeps a b) (joint-top a b) (joint-value a b .0) (joint-value a b .1) (codes-joint n e .0) .0,
+          joint-only limits s t k l n w (joint a b) (joint-keeps a b) (joint-top a b) (joint-value a b .0) (joint-value a b .1) (codes-joint n w e .0) .0 .0,
           λ r. (ap (λ (x : Recoded). left x (digitsOf r s t) (of k l r)) e, ap (λ (x : Recoded). leftCodes x (codesOf r s t) (of kc lc r)) e),
         )
 
-    codes-stand : (n : ℕ) → answer ≡ Written n
+    codes-stand : (n w : ℕ) → answer ≡ Written n w
         → CodesOf (pos (scalar s)) (pos (scalar t)) (λ r. rowBelow n (of (codesDigits limits P s t k l kc lc) (codesDigits limits Q s t k l kc lc) r))
         (of (codesBuffer limits P s t k l kc lc) (codesBuffer limits Q s t k l kc lc))
-    codes-stand n e = same (rows _ (row P, row Q)) (rows _ (code P, code Q)) (codes-are (pos (scalar s)) (pos (scalar t)))
+    codes-stand n w e = same (rows _ (row P, row Q)) (rows _ (code P, code Q)) (codes-are (pos (scalar s)) (pos (scalar t)))
       where
         row : (r : Two) → rowBelow n (codesDigits limits r s t k l kc lc) ≡ digitsOf r s t
-        row r = ap₂ rowBelow (codes-filled n e .0) (codes-filled n e .1 r .0) ∙ column-row r _ (joint-small (pos (scalar s)) (pos (scalar t)))
+        row r = ap₂ rowBelow (codes-filled n w e .0) (codes-filled n w e .1 r .0) ∙ column-row r _ (joint-small (pos (scalar s)) (pos (scalar t)))
 
         code : (r : Two) (i : ℕ) → getD (codesBuffer limits r s t k l kc lc) i 0 ≡ getD (codesOf r s t) i 0
-        code r i = rw (codes-filled n e .1 r .1) (padded-at (codesOf r s t) (length (of kc lc r) - length (codesOf r s t)) i)
+        code r i = rw (codes-filled n w e .1 r .1) (padded-at (codesOf r s t) (length (of kc lc r) - length (codesOf r s t)) i)
 
     -- the answer and the buffers keep the promise
     pub codes-promised :
@@ -123,6 +123,6 @@ module _ (limits : Limits) (s t : List ℕ) where
         go BadScalar e = tt
         go BadWindow e = tt
         go NoRoom e = tt
-        go (Written n) e =
-            let (f, g) = codes-joint n e in
-            (rw (g P, g Q) (joint-written limits s t k l n f), codes-stand n e)
+        go (Written n w) e =
+            let (f, g) = codes-joint n w e in
+            (rw (g P, g Q) (joint-written limits s t k l n w f), codes-stand n w e)

@@ -52,7 +52,7 @@ count-most (pos (suc n)) = omega arith
 count-most (negsuc n) = omega arith
 
 -- an odd one does
-count-odd : (d : ℤ) → natAbs d % 2 ≡ 1 → count d ≡ 1
+pub count-odd : (d : ℤ) → natAbs d % 2 ≡ 1 → count d ≡ 1
 count-odd (pos zero) h = absurd (omega arith)
 count-odd (pos (suc n)) h = refl
 count-odd (negsuc n) h = refl

@@ -12,8 +12,8 @@ use Rattle.digits.specs.Scalar.{scalar, sized}
 use Rattle.digits.specs.Two.{Two, P, Q, two}
 use Rattle.forms.specs.Joint.{joint}
 use Rattle.recode.specs.declared.answer.Recoded.{Recoded}
-use Rattle.recode.specs.declared.answer.Recoded.the-variants.{BadScalar, NoRoom, Written}
-use Rattle.recode.specs.Call.{number, jointQuestion, jointAnswer, jointBuffer, JointPromised, left, filled}
+use Rattle.recode.specs.declared.answer.Recoded.the-variants.{BadScalar, NoRoom}
+use Rattle.recode.specs.Call.{number, wroteColumns, jointQuestion, jointAnswer, jointBuffer, JointPromised, left, filled}
 use Rattle.recode.specs.Call.Standing.{joint-question, joint-promised}
 
 -- one row of the joint form of two scalars
@@ -53,10 +53,10 @@ module _ (limits : Limits) (s t k l : List ℕ) where
           returned limits s t k l NoRoom
           (rw (sizes, le-leb (8 * max (length s) (length t) + 1) (length k) room, lt-leb (8 * max (length s) (length t) + 1) (length l) h))
 
-      pub written : (n : ℕ) (k′ l′ : List ℕ) → 8 * max (length s) (length t) + 1 ≤ length l → n ≡ length (joint (pos (scalar s)) (pos (scalar t)))
-          → k′ ≡ filled (digitsOf P s t) k → l′ ≡ filled (digitsOf Q s t) l → Returned limits s t k l (Written n) k′ l′
+      pub written : (a : Recoded) (k′ l′ : List ℕ) → 8 * max (length s) (length t) + 1 ≤ length l → a ≡ wroteColumns (joint (pos (scalar s)) (pos (scalar t)))
+          → k′ ≡ filled (digitsOf P s t) k → l′ ≡ filled (digitsOf Q s t) l → Returned limits s t k l a k′ l′
       unfolding jointAnswer
-      written n k′ l′ h e f g =
+      written a k′ l′ h e f g =
           rw (e, f, g)
-          (returned limits s t k l (Written (length (joint (pos (scalar s)) (pos (scalar t)))))
+          (returned limits s t k l (wroteColumns (joint (pos (scalar s)) (pos (scalar t))))
           (rw (sizes, le-leb (8 * max (length s) (length t) + 1) (length k) room, le-leb (8 * max (length s) (length t) + 1) (length l) h)))

@@ -11,8 +11,8 @@ use Rattle.digits.specs.Row.{isWindow}
 use Rattle.digits.specs.Scalar.{scalar, sized}
 use Rattle.forms.specs.Row.{row}
 use Rattle.recode.specs.declared.answer.Recoded.{Recoded}
-use Rattle.recode.specs.declared.answer.Recoded.the-variants.{BadScalar, BadWindow, NoRoom, Written}
-use Rattle.recode.specs.Call.{number, rowQuestion, rowAnswer, rowBuffer, RowPromised, left, filled}
+use Rattle.recode.specs.declared.answer.Recoded.the-variants.{BadScalar, BadWindow, NoRoom}
+use Rattle.recode.specs.Call.{number, wroteRow, rowQuestion, rowAnswer, rowBuffer, RowPromised, left, filled}
 use Rattle.recode.specs.Call.Standing.{row-question, row-promised}
 
 -- the contract of a call whose answer is a and that leaves `out`
@@ -42,8 +42,8 @@ module _ (limits : Limits) (s : List ℕ) (m : ℕ) (buffer : List ℕ) where
       unfolding rowAnswer
       no-room h = returned NoRoom (rw (size, window, lt-leb (8 * length s + 1) (length buffer) h))
 
-      pub written : (n : ℕ) (out : List ℕ) → 8 * length s + 1 ≤ length buffer → n ≡ length (row m (pos (scalar s))) → out ≡ filled (row m (pos (scalar s))) buffer
-          → Returned limits s m buffer (Written n) out
+      pub written : (a : Recoded) (out : List ℕ) → 8 * length s + 1 ≤ length buffer → a ≡ wroteRow (row m (pos (scalar s))) → out ≡ filled (row m (pos (scalar s))) buffer
+          → Returned limits s m buffer a out
       unfolding rowAnswer
-      written n out h e f =
-          rw (e, f) (returned (Written (length (row m (pos (scalar s))))) (rw (size, window, le-leb (8 * length s + 1) (length buffer) h)))
+      written a out h e f =
+          rw (e, f) (returned (wroteRow (row m (pos (scalar s)))) (rw (size, window, le-leb (8 * length s + 1) (length buffer) h)))

@@ -11,7 +11,7 @@ use Rattle.digits.specs.Buffer.{rowBelow}
 use Rattle.digits.specs.Buffer.Read.{row-read, columns-read}
 use Rattle.digits.specs.Column as Columns
 use Rattle.digits.specs.Limits.{Limits}
-use Rattle.digits.specs.Row.{isWindow, value}
+use Rattle.digits.specs.Row.{isWindow, value, weight}
 use Rattle.digits.specs.Row.Window.{window-parts}
 use Rattle.digits.specs.Scalar.{scalar, sized}
 use Rattle.digits.specs.Two.{Column, P, Q, two}
@@ -24,6 +24,9 @@ use Rattle.recode.specs.declared.answer.Recoded.the-variants.{BadScalar,
 use Rattle.recode.specs.Call.{
   number,
   placesWritten,
+  weightWritten,
+  wroteRow,
+  wroteColumns,
   roomy,
   filled,
   left,
@@ -40,7 +43,7 @@ use Rattle.recode.specs.Call.{
 }
 
 -- what is promised, of 01's row and of the joint form
-row-is : (m c : ℕ) → 1 ≤ m → RowOf m c (row m (pos c))
+row-is : (m c : ℕ) → 1 ≤ m → RowOf m c (weight (row m (pos c))) (row m (pos c))
 row-is m c h =
     record {
       rule = row-meets m (pos c) h;
@@ -48,16 +51,17 @@ row-is m c h =
       reads = row-value m (pos c) h;
       top = row-top m (pos c) h;
       short = row-length m c h;
+      counted = refl;
       fewest = λ es. row-fewest m (pos c) es h;
     }
 
-row-stands : (m c : ℕ) (buffer : List ℕ) → isWindow m ≡ true → RowOf m c (rowBelow (length (row m (pos c))) (filled (row m (pos c)) buffer))
+row-stands : (m c : ℕ) (buffer : List ℕ) → isWindow m ≡ true → RowOf m c (weight (row m (pos c))) (rowBelow (length (row m (pos c))) (filled (row m (pos c)) buffer))
 row-stands m c buffer e =
     let (odd, within) = window-parts m e in
     let some : 1 ≤ m = omega arith in
-    subst (RowOf m c) (sym (row-read _ (omega arith) (row-digits m (pos c) some))) (row-is m c some)
+    subst (RowOf m c (weight (row m (pos c)))) (sym (row-read _ (omega arith) (row-digits m (pos c) some))) (row-is m c some)
 
-joint-is : (k l : ℕ) → JointOf k l (joint (pos k) (pos l))
+joint-is : (k l : ℕ) → JointOf k l (Columns.weight two (joint (pos k) (pos l))) (joint (pos k) (pos l))
 joint-is k l =
     record {
       keeps = joint-keeps (pos k) (pos l);
@@ -66,6 +70,7 @@ joint-is k l =
       reads-l = joint-value (pos k) (pos l) .1;
       short = joint-length k l;
       only = λ ds keeps topped e f. joint-only ds keeps topped ∙ ap₂ joint e f;
+      counted = refl;
       fewest = λ ds. joint-fewest (pos k) (pos l) ds;
     }
 
@@ -75,10 +80,7 @@ module _ (limits : Limits) (s : List ℕ) (m : ℕ) where
   unfolding rowAnswer
   row-question places = go (sized limits s) (isWindow m) (roomy (length s) places)
     where
-      n : ℕ
-      n = length (row m (pos (scalar s)))
-
-      go : (a b c : Bool) → number (cond a (cond b (cond c (Written n) NoRoom) BadWindow) BadScalar) ≡ cond a (cond b (cond c 0 3) 2) 1
+      go : (a b c : Bool) → number (cond a (cond b (cond c (wroteRow (row m (pos (scalar s)))) NoRoom) BadWindow) BadScalar) ≡ cond a (cond b (cond c 0 3) 2) 1
       go true true true = refl
       go true true false = refl
       go true false c = refl
@@ -93,9 +95,9 @@ module _ (limits : Limits) (s : List ℕ) (m : ℕ) where
       ds = row m (pos (scalar s))
 
       answer : Bool → Bool → Bool → Recoded
-      answer a b c = cond a (cond b (cond c (Written (length ds)) NoRoom) BadWindow) BadScalar
+      answer a b c = cond a (cond b (cond c (wroteRow ds) NoRoom) BadWindow) BadScalar
 
-      go : (a b c : Bool) → (b ≡ true → RowOf m (scalar s) (rowBelow (length ds) (filled ds buffer)))
+      go : (a b c : Bool) → (b ≡ true → RowOf m (scalar s) (weight ds) (rowBelow (length ds) (filled ds buffer)))
           → RowPromised m (scalar s) (answer a b c) (left (answer a b c) ds buffer)
       go true true true h = h refl
       go true true false h = tt
@@ -108,10 +110,10 @@ module _ (limits : Limits) (s t : List ℕ) where
   joint-question places places′ =
       go (sized limits s) (sized limits t) (roomy (max (length s) (length t)) places) (roomy (max (length s) (length t)) places′)
     where
-      n : ℕ
-      n = length (joint (pos (scalar s)) (pos (scalar t)))
+      cs : List Column
+      cs = joint (pos (scalar s)) (pos (scalar t))
 
-      go : (a b c d : Bool) → number (cond (a && b) (cond (c && d) (Written n) NoRoom) BadScalar) ≡ cond a (cond b (cond c (cond d 0 3) 3) 1) 1
+      go : (a b c d : Bool) → number (cond (a && b) (cond (c && d) (wroteColumns cs) NoRoom) BadScalar) ≡ cond a (cond b (cond c (cond d 0 3) 3) 1) 1
       go true true true true = refl
       go true true true false = refl
       go true true false d = refl
@@ -128,31 +130,35 @@ module _ (limits : Limits) (s t : List ℕ) where
       cs = joint (pos (scalar s)) (pos (scalar t))
 
       answer : Bool → Bool → Recoded
-      answer a b = cond a (cond b (Written (length cs)) NoRoom) BadScalar
+      answer a b = cond a (cond b (wroteColumns cs) NoRoom) BadScalar
 
       go : (a b : Bool)
           → JointPromised (scalar s) (scalar t) (answer a b) (left (answer a b) (Columns.row two P cs) k) (left (answer a b) (Columns.row two Q cs) l)
       go true true =
-          subst (JointOf (scalar s) (scalar t)) (sym (columns-read _ _ (joint-small (pos (scalar s)) (pos (scalar t))))) (joint-is (scalar s) (scalar t))
+          subst (JointOf (scalar s) (scalar t) (Columns.weight two cs)) (sym (columns-read _ _ (joint-small (pos (scalar s)) (pos (scalar t))))) (joint-is (scalar s) (scalar t))
       go true false = tt
       go false b = tt
 
-written-length : (a b : Bool) (m n : ℕ) → cond a (cond b (Written m) NoRoom) BadScalar ≡ Written n → n ≡ m
-written-length true true m n e = sym (ap placesWritten e)
-written-length true false m n e = absurd (omega (arith, ap number e))
-written-length false b m n e = absurd (omega (arith, ap number e))
+written-parts : (a b : Bool) (m v n w : ℕ) → cond a (cond b (Written m v) NoRoom) BadScalar ≡ Written n w → (n ≡ m) × (w ≡ v)
+written-parts true true m v n w e = (sym (ap placesWritten e), sym (ap weightWritten e))
+written-parts true false m v n w e = absurd (omega (arith, ap number e))
+written-parts false b m v n w e = absurd (omega (arith, ap number e))
 
 -- columns that keep the rules with a non-zero top are the ones that a joint call writes for their values
-pub joint-only-written : (limits : Limits) (s t k l : List ℕ) (n : ℕ) (cs : List Column) → Keeps cs → Topped cs
+pub joint-only-written : (limits : Limits) (s t k l : List ℕ) (n w : ℕ) (cs : List Column) → Keeps cs → Topped cs
     → value (Columns.row two P cs) ≡ pos (scalar s) → value (Columns.row two Q cs) ≡ pos (scalar t)
-    → jointAnswer limits s t (length k) (length l) ≡ Written n
-    → (n ≡ length cs) × (jointBuffer limits P s t k l ≡ filled (Columns.row two P cs) k) × (jointBuffer limits Q s t k l ≡ filled (Columns.row two Q cs) l)
+    → jointAnswer limits s t (length k) (length l) ≡ Written n w
+    → ((n ≡ length cs) × (w ≡ Columns.weight two cs))
+    × ((jointBuffer limits P s t k l ≡ filled (Columns.row two P cs) k) × (jointBuffer limits Q s t k l ≡ filled (Columns.row two Q cs) l))
 unfolding jointAnswer jointBuffer
-joint-only-written limits s t k l n cs keeps topped v w e =
-    let same = joint-only cs keeps topped ∙ ap₂ joint v w in (
-      written-length (sized limits s && sized limits t) rooms (length (joint (pos (scalar s)) (pos (scalar t)))) n e ∙ ap (λ (ds : List Column). length ds) (sym same),
-      ap (λ (a : Recoded). left a (Columns.row two P (joint (pos (scalar s)) (pos (scalar t)))) k) e ∙ ap (λ (ds : List Column). filled (Columns.row two P ds) k) (sym same),
-      ap (λ (a : Recoded). left a (Columns.row two Q (joint (pos (scalar s)) (pos (scalar t)))) l) e ∙ ap (λ (ds : List Column). filled (Columns.row two Q ds) l) (sym same),
+joint-only-written limits s t k l n w cs keeps topped u v e =
+    let same = joint-only cs keeps topped ∙ ap₂ joint u v in
+    let parts = written-parts (sized limits s && sized limits t) rooms (length (joint (pos (scalar s)) (pos (scalar t)))) (Columns.weight two (joint (pos (scalar s)) (pos (scalar t)))) n w e in (
+      (parts .0 ∙ ap (λ (ds : List Column). length ds) (sym same), parts .1 ∙ ap (Columns.weight two) (sym same)),
+      (
+        ap (λ (a : Recoded). left a (Columns.row two P (joint (pos (scalar s)) (pos (scalar t)))) k) e ∙ ap (λ (ds : List Column). filled (Columns.row two P ds) k) (sym same),
+        ap (λ (a : Recoded). left a (Columns.row two Q (joint (pos (scalar s)) (pos (scalar t)))) l) e ∙ ap (λ (ds : List Column). filled (Columns.row two Q ds) l) (sym same),
+      ),
     )
   where
     rooms : Bool

@@ -2,14 +2,15 @@
 use mathlib.Core.Path.{_≡_, refl, sym, ap, ap₂, subst, _∙_}
 use mathlib.Core.Bool.{Bool, true, false, not}
 use mathlib.Core.List.{List, [], _∷_, _++_, map}
-use Prim.Native.Nat.{ℕ, zero, suc, _+_, _-_, _%_, _≤_, _<_}
+use Prim.Native.Nat.{ℕ, suc, _+_, _-_, _≤_, _<_}
 use native.Mathlib.Omega.{arith}
 use lib.Dec.{T}
-use lib.IntN.{ℤ, pos, negsuc, _+ℤ_, natAbs}
+use lib.IntN.{ℤ, pos, _+ℤ_, natAbs}
 use Rattle.digits.specs.Limits.{Limits}
 use Rattle.digits.specs.Integer.Parts.{integers, sum}
 use Rattle.digits.specs.Row.{value, count, Digit, none, odd, empty, more}
 use Rattle.digits.specs.Row as Rows
+use Rattle.digits.specs.Row.Adding.{count-odd}
 use Rattle.digits.specs.Column.{row, counted, Small}
 use Rattle.digits.specs.Column as Columns
 use Rattle.digits.specs.Two.{Column, Two, P, Q, digit, blank, blankColumn, two}
@@ -83,7 +84,7 @@ columns-value ls r = comes (point (pos 0) (pos 0)) [] ls at-start r
 -- ── each place has digits of the plan, one at most in each row ──────────────────────────────
 
 -- what a plan counts of one column
-abbrev pub weigh : Plan → Column → ℕ
+abbrev weigh : Plan → Column → ℕ
 weigh J c = counted (blank c)
 weigh (I m1 m2) c = count (c .p) + count (c .q)
 
@@ -102,7 +103,7 @@ record Place (p : Plan) (n : ℕ) (c : Column) : Type 0 where
   free : Free p n c
 
 -- the weight of one column more, and of none
-pub weight-more : (p : Plan) (c : Column) (cs : List Column) → weight p (c ∷ cs) ≡ weigh p c + weight p cs
+weight-more : (p : Plan) (c : Column) (cs : List Column) → weight p (c ∷ cs) ≡ weigh p c + weight p cs
 unfolding Columns.weight Rows.weight row
 weight-more J c cs = refl
 weight-more (I m1 m2) c cs = omega arith
@@ -147,11 +148,6 @@ counted-full : (b : Bool) → T (not b) → counted b ≡ 1
 counted-full true h = absurd h
 counted-full false h = refl
 
-count-odd : (z : ℤ) → natAbs z % 2 ≡ 1 → count z ≡ 1
-count-odd (pos zero) h = absurd (omega arith)
-count-odd (pos (suc n)) h = refl
-count-odd (negsuc n) h = refl
-
 small-column : (t : Column) → natAbs (t .p) ≤ 1 → natAbs (t .q) ≤ 1 → (r : Two) → natAbs (digit t r) ≤ 1
 small-column t a b P = a
 small-column t a b Q = b
@@ -184,7 +180,7 @@ taken n c x l (forQ {m1} {m2} {t} z a b) =
 
 -- ── so are the columns of all steps ─────────────────────────────────────────────────────────
 
-pub weight-none : (p : Plan) → weight p [] ≡ 0
+weight-none : (p : Plan) → weight p [] ≡ 0
 unfolding Columns.weight Rows.weight row
 weight-none J = refl
 weight-none (I m1 m2) = refl

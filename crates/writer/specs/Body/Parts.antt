@@ -10,6 +10,7 @@ use Rattle.digits.specs.Byte.{signed}
 use Rattle.digits.specs.Limits.{card}
 use Rattle.digits.specs.Two.{Column, blankColumn}
 use Rattle.sheet.specs.declared.Plan.{Plan}
+use Rattle.sheet.specs.Digits.{weight}
 use Rattle.sheet.specs.Line.{Header, table}
 use Rattle.sheet.specs.Numeral.{figure, numeral}
 use Rattle.sheet.specs.Plan.{Point, point, stored, odds, multiples}
@@ -96,11 +97,13 @@ pub record Holds (p q : List ℕ) (cs : List Column) : Type 0 where
 unfoldable pub Bounded : ℕ → Type 0
 Bounded n = n < 2 ^ 528
 
--- all that the writer needs: a valid plan, scalars of 66 bytes, the rows that hold their digits, and room for a sheet
-pub record Ready (plan : Plan) (k l : ℕ) (p q : List ℕ) (places : ℕ) (out : List ℕ) : Type 0 where
+-- all that the writer needs: a valid plan, scalars of 66 bytes, the rows that hold their digits, how many places these have, what the plan
+-- counts of them, and room for a sheet
+pub record Ready (plan : Plan) (k l : ℕ) (p q : List ℕ) (places counted : ℕ) (out : List ℕ) : Type 0 where
   pub valid : Valid plan
   pub k-bounded : Bounded k
   pub l-bounded : Bounded l
   pub held : Holds p q (digits plan k l)
   pub long : places ≡ length (digits plan k l)
+  pub heavy : counted ≡ weight plan (digits plan k l)
   pub room : card .sheet ≤ length out

@@ -59,7 +59,7 @@ sheet-doublings h p st =
     doublings-append (map table (tables p)) (stepLines st ++ (end ∷ []))
     ∙ ap (λ (n : ℕ). n + doublings (stepLines st ++ (end ∷ []))) (tables-doublings p)
 
-pub few-additions : {p : Plan} → Valid p → tableAdditions p ≤ 30
+few-additions : {p : Plan} → Valid p → tableAdditions p ≤ 30
 few-additions forJ = omega arith
 few-additions (forI v w) = omega (arith, v .within, w .within)
 
@@ -130,6 +130,11 @@ module _ (p : Plan) (k l : ℕ) where
     module _ (limits : Limits) (b : ℕ) (enough : Enough limits b) (k-fits : k < 2 ^ b) (l-fits : l < 2 ^ b) where
       pub places : length (digits p k l) ≤ b + 1
       places = digits-length k l v b (length-least k b k-fits) (length-least l b l-fits)
+
+      -- its additions: at most 30 in the table, and two at each place
+      pub few-within : writtenAdditions p k l ≤ 30 + 2 * (b + 1)
+      unfolding writtenAdditions stepAdditions
+      few-within = omega (arith, lines-additions, head-additions, few-additions v, stepped .additions-few, places)
 
       short : ShortHeader limits head
       unfolding stepAdditions stepDoublings

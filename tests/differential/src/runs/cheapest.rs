@@ -2,7 +2,8 @@
 
 use super::{refused_scalars, ROOM, ROOMS};
 use crate::judge::Judge;
-use reference::calls::{Answer, Call};
+use reference::answer::Answer;
+use reference::calls::Call;
 use reference::cheapest::Weights;
 use reference::plan::MOST_SLOTS;
 use reference::random::Random;
@@ -17,15 +18,16 @@ pub fn run(judge: &mut Judge, random: &mut Random) {
         every_limit(judge, &k, &l);
     }
     every_limit(judge, &[255; 66], &[255; 66]);
+    every_limit(judge, &scalars::dense(), &scalars::dense());
     refusals(judge, random);
 }
 
 fn every_limit(judge: &mut Judge, k: &[u8], l: &[u8]) {
     let weights = Weights::of(scalars::value(k), scalars::value(l));
     for limit in 0..=MOST_SLOTS {
-        let sheet = weights.cheapest_sheet(limit as usize).to_bytes();
+        let sheet = weights.cheapest_sheet(limit as usize);
         let call = Call::Cheapest { k: k.to_vec(), l: l.to_vec(), limit, room: ROOM };
-        judge.compare_with(&call, &Answer::Sheet(sheet));
+        judge.compare_with(&call, &Answer::sheet(&sheet));
     }
 }
 

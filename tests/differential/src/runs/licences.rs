@@ -3,7 +3,8 @@
 
 use super::ROOM;
 use crate::judge::Judge;
-use reference::calls::{Answer, Call};
+use reference::answer::Answer;
+use reference::calls::Call;
 use reference::card::modular::Number;
 use reference::card::{self, Run};
 use reference::carry_stops;
@@ -76,19 +77,23 @@ impl Trial<'_> {
     }
 
     /// Orders the sheet and runs it: it finds the licence valid or not, in as many places and by as
-    /// many group operations as its header says.
+    /// many group operations as its header says, and by as many additions as the call answered.
     fn check(&mut self, licence: &Licence, call: &Call, valid: bool) {
-        let sheet = self.order(call);
+        let (sheet, answered) = self.order(call);
         let run = self.run(licence, &sheet);
         let finds = run.as_ref().map(|run| licence.is_valid(run.result));
         self.judge.hold(format_args!("is it valid, by {call}"), Some(valid), finds);
         let made = run.map(|run| [run.slots, run.additions, run.doublings]);
         self.judge.hold(format_args!("slots and operations, by {call}"), counted(&sheet), made);
+        let additions = made.map(|[_, additions, _]| additions);
+        self.judge.hold(format_args!("additions answered, by {call}"), Some(answered), additions);
     }
 
-    fn order(&mut self, call: &Call) -> String {
+    /// The sheet that the call writes, and the additions that it answers.
+    fn order(&mut self, call: &Call) -> (String, usize) {
         let outcome = self.judge.compare(call);
-        String::from_utf8_lossy(outcome.sheet().unwrap_or_default()).into_owned()
+        let sheet = String::from_utf8_lossy(outcome.sheet().unwrap_or_default()).into_owned();
+        (sheet, outcome.additions())
     }
 
     fn run(&mut self, licence: &Licence, sheet: &str) -> Option<Run> {
@@ -112,7 +117,7 @@ impl Trial<'_> {
     /// the licence valid.
     fn sign_turned(&mut self, licence: &Licence) {
         let call = cheapest(licence, self.random.pick(&LIMITS));
-        let sheet = self.order(&call);
+        let (sheet, _) = self.order(&call);
         let steps = sheet.lines().filter(|line| is_step(line)).count();
         let turned = with_step_turned(&sheet, self.random.below(steps));
         let read = Call::Read { sheet: turned.clone().into_bytes() };

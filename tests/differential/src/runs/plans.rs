@@ -2,7 +2,8 @@
 
 use super::{refused_scalars, REFUSED_WINDOWS, ROOM, ROOMS};
 use crate::judge::Judge;
-use reference::calls::{Answer, Call};
+use reference::answer::Answer;
+use reference::calls::Call;
 use reference::plan::Plan;
 use reference::random::Random;
 use reference::scalars;
@@ -29,6 +30,8 @@ fn pairs(random: &mut Random) -> Vec<(Vec<u8>, Vec<u8>)> {
         (vec![255; 66], vec![255; 66]),
         (vec![255; 66], vec![0; 66]),
         (vec![0x80; 66], vec![1]),
+        (scalars::dense(), scalars::dense()),
+        scalars::dense_pair(),
     ];
     pairs.extend((0..RANDOM_PAIRS).map(|_| scalars::random_pair(random)));
     pairs

@@ -1,7 +1,8 @@
 //! The reader: foreign sheets, damaged sheets, and bytes that are no sheets.
 
 use crate::judge::Judge;
-use reference::calls::{Answer, Call};
+use reference::answer::Answer;
+use reference::calls::Call;
 use reference::damage::{damage, recount};
 use reference::plan::{Plan, MOST_SLOTS};
 use reference::random::Random;

@@ -28,8 +28,8 @@ fn compare_rows(judge: &mut Judge, rows: &[Least]) {
             let call = Call::Row { scalar: small(scalar), m: m.into(), places: 9 };
             let expected = least.weight(scalar.into(), 0);
             judge.compare_claiming(&call, &|outcome| {
-                let got = outcome.buffers[0].iter().filter(|&&digit| digit != 0).count();
-                Claim { what: "weight", expected, got }
+                let counted = outcome.buffers[0].iter().filter(|&&digit| digit != 0).count();
+                Claim { what: "weight", expected, counted, answered: outcome.weight() }
             });
         }
     }
@@ -38,14 +38,16 @@ fn compare_rows(judge: &mut Judge, rows: &[Least]) {
 fn compare_joint_forms(judge: &mut Judge, columns: &Least) {
     for k in 0..BOUND {
         for l in 0..BOUND {
-            let call = Call::Joint { k: small(k), l: small(l), k_places: 9, l_places: 9 };
             let expected = columns.weight(k.into(), l.into());
-            judge.compare_claiming(&call, &|outcome| {
+            let claim = |outcome: &Outcome| {
                 let pairs = outcome.buffers[0].iter().zip(&outcome.buffers[1]);
-                let got = pairs.filter(|&pair| pair != (&0, &0)).count();
-                Claim { what: "weight", expected, got }
-            });
-            judge.compare(&Call::JointCodes { k: small(k), l: small(l), rooms: [9; 4] });
+                let counted = pairs.filter(|&pair| pair != (&0, &0)).count();
+                Claim { what: "weight", expected, counted, answered: outcome.weight() }
+            };
+            let joint = Call::Joint { k: small(k), l: small(l), k_places: 9, l_places: 9 };
+            judge.compare_claiming(&joint, &claim);
+            let coded = Call::JointCodes { k: small(k), l: small(l), rooms: [9; 4] };
+            judge.compare_claiming(&coded, &claim);
         }
     }
 }
@@ -70,8 +72,8 @@ fn compare_cheapest(judge: &mut Judge, rows: &[Least], columns: &Least) {
                 let fewest = allowed.map(|&(_, additions)| additions).min();
                 let expected = fewest.expect("windows 1, 1 need no slot");
                 judge.compare_claiming(&call, &|outcome| {
-                    let got = counted_additions(outcome);
-                    Claim { what: "additions", expected, got }
+                    let (counted, answered) = (counted_additions(outcome), outcome.additions());
+                    Claim { what: "additions", expected, counted, answered }
                 });
             }
         }

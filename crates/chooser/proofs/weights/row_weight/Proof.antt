@@ -1,40 +1,31 @@
--- `row_weight` meets its contract: of 529 places those that the scalar's bytes ask for are lent.
-use mathlib.Core.Path.{_≡_, sym}
-use Prim.Native.Nat.{ℕ, _≤_}
-use native.Mathlib.Omega.{arith}
+-- `row_weight` meets its contract: the row call tells the weight (Weighing).
 use borrow.Author.Needs.{needs}
-use lib.ListN.{length, take, replicate, length-take}
+use Rattle.chooser.proofs.Weighing.{row-fits, row-weighed}
 use Rattle.chooser.proofs.weights.row_weight.Statement.{statement}
 use Rattle.chooser.proofs.weights.row_weight.Tie as tie
 
-lent : (n : ℕ) → n ≤ 529 → length {A = ℕ} (take n (replicate 529 0)) ≡ n
-lent n h = simp length-take (omega arith)
+abbrev asked : tie.After-weight → tie.Start
+asked c = c .before .before .before .before .before .before .before
 
-mul-places : tie.Need-mul-places
-mul-places c = search needs
+row-requires : tie.Need-row-requires
+row-requires c κs = search needs
 
-add-places : tie.Need-add-places
-add-places c = search needs
+weight-requires : tie.Need-weight-requires
+weight-requires c κs = search needs
 
-array-borrow-prefix-digits : tie.Need-array-borrow-prefix-digits
-array-borrow-prefix-digits c = search needs
+cast-result : tie.Need-cast-result
+cast-result c =
+    let a = asked c .args in
+    record { fits = row-fits (a .bytes .now) (a .m) (a .digits .now) (c .before .before .before .row .ensures .0) (c .weight .ensures) (λ i. c .before .before .before .before .before .before .shared-slice-known .given i .fits) }
 
-slice-aggregate-row-weight-in : tie.Need-slice-aggregate-row-weight-in
-slice-aggregate-row-weight-in c = sym (lent _ (omega arith))
-
-row-weight-in-requires : tie.Need-row-weight-in-requires
-row-weight-in-requires c κs = (c .before .before .pre, lent _ (omega arith))
+same-length : tie.Need-same-length
+same-length c = search needs
 
 returns : tie.Need-returns
-returns c = search needs
+returns c =
+    let a = asked c .args in
+    let p = asked c .pre in
+    row-weighed (a .bytes .now) (a .m) (a .digits .now) (c .before .before .before .row .ensures .0) (c .weight .ensures) (p .0 .0) (p .0 .1 .0) (p .0 .1 .1 .0) (p .0 .1 .1 .1) (p .1)
 
 pub row-weight-spec : {M : Type 1} → statement M
-row-weight-spec =
-    tie.close
-    (tie.spec
-    mul-places
-    add-places
-    array-borrow-prefix-digits
-    slice-aggregate-row-weight-in
-    row-weight-in-requires
-    returns)
+row-weight-spec = tie.close (tie.spec row-requires weight-requires cast-result same-length returns)

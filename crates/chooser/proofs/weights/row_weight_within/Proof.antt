@@ -13,19 +13,23 @@ is-within-requires c κs = search needs
 row-weight-requires : tie.Need-row-weight-requires
 row-weight-requires c κs = search needs
 
+same-length : tie.Need-same-length
+same-length c = search needs
+
 returns : tie.Need-returns
 returns c =
     let w = c .before .before in
-    let a = w .before .before .args in
-    let t : isWithin (I (a .m) 1) (a .limit) ≡ true = sym (w .is-within .ensures) ∙ c .before .if1 .taken in
-    rw t (c .row-weight .ensures)
+    let i = w .before .before .before in
+    let a = c .before .before .before .before .before .before .before .before .args in
+    let t : isWithin (I (a .m) 1) (a .limit) ≡ true = sym (i .is-within .ensures) ∙ w .before .before .if1 .taken in
+    rw t (w .row-weight .ensures)
 
 returns-2 : tie.Need-returns-2
 returns-2 c =
     let w = c .before in
-    let a = w .before .before .args in
+    let a = w .before .before .before .args in
     let t : isWithin (I (a .m) 1) (a .limit) ≡ false = sym (w .is-within .ensures) ∙ c .if1 .left in
     rw t
 
 pub row-weight-within-spec : {M : Type 1} → statement M
-row-weight-within-spec = tie.close (tie.spec is-within-requires row-weight-requires returns returns-2)
+row-weight-within-spec = tie.close (tie.spec is-within-requires row-weight-requires same-length returns returns-2)

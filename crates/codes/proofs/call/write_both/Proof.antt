@@ -3,14 +3,12 @@ use mathlib.Core.Path.{_≡_, refl, sym, _∙_}
 use native.Mathlib.Omega.{arith}
 use borrow.Author.Needs.{needs}
 use lib.IntN.{pos}
-use lib.ListN.{length}
 use Rattle.digits.specs.Limits.{card}
 use Rattle.digits.specs.Scalar.{Bytes, scalar}
 use Rattle.digits.specs.Two.{P, Q}
 use Rattle.forms.specs.Joint.{joint}
-use Rattle.recode.specs.Call.{filled}
+use Rattle.recode.specs.Call.{wroteColumns, filled}
 use Rattle.recode.specs.Call.Joint.{digitsOf, Returned, written}
-use Rattle.recode.specs.declared.answer.Recoded.the-variants.{Written}
 use Rattle.codes.proofs.Coded.{asks, leaves}
 use Rattle.codes.proofs.call.write_both.Statement.{statement}
 use Rattle.codes.proofs.call.write_both.Tie as tie
@@ -31,15 +29,15 @@ module _ (c : tie.After-joint) where
   -- what the joint call answers and leaves
   met :
       let a = asked c .args in
-      Returned card (a .k .now) (a .l .now) (a .k-digits .now) (a .l-digits .now) (Written (length (joint (pos (scalar (a .k .now))) (pos (scalar (a .l .now))))))
+      Returned card (a .k .now) (a .l .now) (a .k-digits .now) (a .l-digits .now) (wroteColumns (joint (pos (scalar (a .k .now))) (pos (scalar (a .l .now)))))
       (filled (digitsOf P (a .k .now) (a .l .now)) (a .k-digits .now)) (filled (digitsOf Q (a .k .now) (a .l .now)) (a .l-digits .now))
   met =
       let a = asked c .args in
       let p = asked c .pre in
-      written card (a .k .now) (a .l .now) (a .k-digits .now) (a .l-digits .now) (p .0 .0) (omega (arith, p)) (length (joint (pos (scalar (a .k .now))) (pos (scalar (a .l .now)))))
+      written card (a .k .now) (a .l .now) (a .k-digits .now) (a .l-digits .now) (p .0 .0) (omega (arith, p)) (wroteColumns (joint (pos (scalar (a .k .now))) (pos (scalar (a .l .now)))))
       (filled (digitsOf P (a .k .now) (a .l .now)) (a .k-digits .now)) (filled (digitsOf Q (a .k .now) (a .l .now)) (a .l-digits .now)) (omega (arith, p)) refl refl refl
 
-  answer : c .joint .result ≡ Written (length (joint (pos (scalar (asked c .args .k .now))) (pos (scalar (asked c .args .l .now)))))
+  answer : c .joint .result ≡ wroteColumns (joint (pos (scalar (asked c .args .k .now))) (pos (scalar (asked c .args .l .now))))
   answer = c .joint .ensures .0 ∙ sym (met .0)
 
   k-row : c .joint .last .1 .1 .0 ≡ filled (digitsOf P (asked c .args .k .now) (asked c .args .l .now)) (asked c .args .k-digits .now)

@@ -1,10 +1,8 @@
--- `sheets_cheapest` meets its contract: it tells what `cheapest` answers, whose length fits the low half.
-use mathlib.Core.Path.{ap, _∙_}
-use native.Mathlib.Omega.{arith}
+-- `sheets_cheapest` meets its contract: it tells what `cheapest` answers, whose numbers fit their parts.
+use mathlib.Core.Path.{sym, ap, subst, _∙_}
 use lib.ListN.{length}
-use Rattle.writer.specs.Call.{bytesWritten}
-use Rattle.host.specs.Told.Lengths.{cheapest-short}
-use Rattle.host.specs.Told.{toldSheet}
+use Rattle.host.specs.Told.Parts.{cheapest-fits}
+use Rattle.host.specs.Told.{toldSheet, SheetFits}
 use borrow.Author.Needs.{needs}
 use Rattle.host.proofs.calls.sheets_cheapest.Statement.{statement}
 use Rattle.host.proofs.calls.sheets_cheapest.Tie as tie
@@ -17,12 +15,9 @@ written-requires c κs =
     let w = c .before .before in
     let s = w .before .before .before in
     let a = s .before .before .args in
-    omega (
-      arith,
-      ap bytesWritten (w .cheapest .ensures .0),
-      cheapest-short (a .k .now) (a .l .now) (λ i. s .before .shared-slice-known .given i .fits) (λ i. s .shared-slice-known2 .given i .fits) (a .limit)
-          (length (a .sheet .now)),
-    )
+    subst SheetFits (sym (w .cheapest .ensures .0))
+    (cheapest-fits (a .k .now) (a .l .now) (λ i. s .before .shared-slice-known .given i .fits) (λ i. s .shared-slice-known2 .given i .fits) (a .limit)
+    (length (a .sheet .now)))
 
 same-length : tie.Need-same-length
 same-length c = search needs

@@ -1,10 +1,8 @@
--- `sheets_joint_codes` meets its contract: it tells what `joint_codes` answers, whose length fits the low half.
-use mathlib.Core.Path.{ap, _∙_}
-use native.Mathlib.Omega.{arith}
+-- `sheets_joint_codes` meets its contract: it tells what `joint_codes` answers, whose numbers fit their parts.
+use mathlib.Core.Path.{sym, ap, subst, _∙_}
 use lib.ListN.{length}
-use Rattle.recode.specs.Call.{placesWritten}
-use Rattle.host.specs.Told.Lengths.{codes-short}
-use Rattle.host.specs.Told.{toldRecoded}
+use Rattle.host.specs.Told.Parts.{codes-fits}
+use Rattle.host.specs.Told.{toldRecoded, RecodedFits}
 use borrow.Author.Needs.{needs}
 use Rattle.host.proofs.calls.sheets_joint_codes.Statement.{statement}
 use Rattle.host.proofs.calls.sheets_joint_codes.Tie as tie
@@ -17,12 +15,9 @@ recoded-requires c κs =
     let w = c .before .before .before .before .before .before .before .before in
     let s = w .before .before .before .before .before .before .before .before .before in
     let a = s .before .before .args in
-    omega (
-      arith,
-      ap placesWritten (w .joint-codes .ensures .0),
-      codes-short (a .k .now) (a .l .now) (length (a .k-digits .now)) (length (a .l-digits .now)) (length (a .k-codes .now)) (length (a .l-codes .now))
-          (λ i. s .before .shared-slice-known .given i .fits) (λ i. s .shared-slice-known2 .given i .fits),
-    )
+    subst RecodedFits (sym (w .joint-codes .ensures .0))
+    (codes-fits (a .k .now) (a .l .now) (length (a .k-digits .now)) (length (a .l-digits .now)) (length (a .k-codes .now)) (length (a .l-codes .now))
+    (λ i. s .before .shared-slice-known .given i .fits) (λ i. s .shared-slice-known2 .given i .fits))
 
 same-length : tie.Need-same-length
 same-length c = search needs

@@ -1,10 +1,8 @@
--- `sheets_row` meets its contract: it tells what `row` answers, whose length fits the low half.
-use mathlib.Core.Path.{ap, _∙_}
-use native.Mathlib.Omega.{arith}
+-- `sheets_row` meets its contract: it tells what `row` answers, whose numbers fit their parts.
+use mathlib.Core.Path.{sym, ap, subst, _∙_}
 use lib.ListN.{length}
-use Rattle.recode.specs.Call.{placesWritten}
-use Rattle.host.specs.Told.Lengths.{row-short}
-use Rattle.host.specs.Told.{toldRecoded}
+use Rattle.host.specs.Told.Parts.{row-fits}
+use Rattle.host.specs.Told.{toldRecoded, RecodedFits}
 use borrow.Author.Needs.{needs}
 use Rattle.host.proofs.calls.sheets_row.Statement.{statement}
 use Rattle.host.proofs.calls.sheets_row.Tie as tie
@@ -17,11 +15,8 @@ recoded-requires c κs =
     let w = c .before .before in
     let s = w .before .before .before in
     let a = s .before .args in
-    omega (
-      arith,
-      ap placesWritten (w .row .ensures .0),
-      row-short (a .scalar .now) (a .m) (length (a .digits .now)) (λ i. s .shared-slice-known .given i .fits),
-    )
+    subst RecodedFits (sym (w .row .ensures .0))
+    (row-fits (a .scalar .now) (a .m) (length (a .digits .now)) (λ i. s .shared-slice-known .given i .fits))
 
 same-length : tie.Need-same-length
 same-length c = search needs

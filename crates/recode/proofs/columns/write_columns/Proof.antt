@@ -13,16 +13,16 @@ use Rattle.forms.specs.Test.{rows}
 use Rattle.recode.specs.declared.low.Low.{Low}
 use Rattle.recode.proofs.LowRemainder.{Without}
 use Rattle.recode.proofs.MachineDigit.{cast-fits, as-byte, less-asks, less-says}
-use Rattle.recode.proofs.JointLoop.{Given, Going, State, begin, refill, finish, going-on, skipped, inside, small, halved, stored}
+use Rattle.recode.proofs.JointLoop.{Given, Going, State, begin, refill, finish, going-on, skipped, inside, few, small, halved, stored}
 use Rattle.recode.proofs.columns.write_columns.Statement.{statement}
 use Rattle.recode.proofs.columns.write_columns.Tie as tie
 
 abbrev Inv-loop : tie.InvT-loop
-Inv-loop k l k-used l-used k-out₀ l-out₀ k-low₀ l-low₀ place₀ table k-out l-out k-low l-low place =
-    State k l k-out₀ k-out l-out k-low l-low place
+Inv-loop k l k-used l-used k-out₀ l-out₀ k-low₀ l-low₀ place₀ weight₀ table k-out l-out k-low l-low place weight =
+    State k l k-out₀ k-out l-out k-low l-low place weight
 
 abbrev μ-loop : tie.MeasureT-loop
-μ-loop k l k-used l-used k-out₀ l-out₀ k-low₀ l-low₀ place₀ table k-out l-out k-low l-low place = length k-out - place
+μ-loop k l k-used l-used k-out₀ l-out₀ k-low₀ l-low₀ place₀ weight₀ table k-out l-out k-low l-low place weight = length k-out - place
 
 -- the arguments, and what holds throughout the loop
 abbrev asked : tie.After-digit-table Inv-loop μ-loop → tie.Start Inv-loop μ-loop
@@ -45,7 +45,7 @@ module _ (c : tie.After-digit-table Inv-loop μ-loop) where
 -- the state at a place of a turn
 abbrev Standing : tie.At-loop Inv-loop μ-loop → Low → Low → ℕ → Type 0
 Standing c s t place =
-    let a = asked (c .before) .args in State (a .k .now) (a .l .now) (a .k-out .now) (c .loop .k-out) (c .loop .l-out) s t place
+    let a = asked (c .before) .args in State (a .k .now) (a .l .now) (a .k-out .now) (c .loop .k-out) (c .loop .l-out) s t place (c .loop .weight)
 
 -- once the low bits are filled up
 full : (c : tie.After-filled2 Inv-loop μ-loop) → Standing (c .before .before) (c .before .filled .result) (c .filled2 .result) (c .before .before .loop .place)
@@ -95,11 +95,11 @@ both-zeros-requires c κs =
 
 shifted-requires : tie.Need-shifted-requires Inv-loop μ-loop
 shifted-requires c κs =
-    (c .before .before .before .before .filled .ensures .1 .0, (c .both-zeros .ensures .0, c .both-zeros .ensures .1 .0))
+    (c .before .before .before .before .filled .ensures .1 .0, (c .both-zeros .ensures .0 .0, c .both-zeros .ensures .0 .1 .0))
 
 shifted-requires-2 : tie.Need-shifted-requires-2 Inv-loop μ-loop
 shifted-requires-2 c κs =
-    let z = c .before .both-zeros .ensures in
+    let z = c .before .both-zeros .ensures .0 in
     let f = c .before .before .before .before in
     (f .filled2 .ensures .1 .0, (omega (arith, z .0, full f .level), z .1 .1))
 
@@ -112,10 +112,10 @@ turned c = filled-up c .before .before
 
 module _ (c : tie.After-shifted2 Inv-loop μ-loop) where
   k-without : Without (filled-up c .before .filled .result) (c .before .shifted .result) (c .before .before .both-zeros .result)
-  k-without = record { zeros = c .before .before .both-zeros .ensures .1 .0; shifted = c .before .shifted .ensures }
+  k-without = record { zeros = c .before .before .both-zeros .ensures .0 .1 .0; shifted = c .before .shifted .ensures }
 
   l-without : Without (filled-up c .filled2 .result) (c .shifted2 .result) (c .before .before .both-zeros .result)
-  l-without = record { zeros = c .before .before .both-zeros .ensures .1 .1; shifted = c .shifted2 .ensures }
+  l-without = record { zeros = c .before .before .both-zeros .ensures .0 .1 .1; shifted = c .shifted2 .ensures }
 
   going : Going (asked (turned c .before) .args .k-used) (asked (turned c .before) .args .l-used) (filled-up c .before .filled .result) (filled-up c .filled2 .result)
   going = c .before .before .before .before .both-ended .ensures .1 (c .before .before .before .if1 .left)
@@ -185,6 +185,16 @@ module _ (c : tie.After-joint-digit2 Inv-loop μ-loop) where
   l-tiny : natAbs (c .joint-digit2 .result) ≤ 31
   l-tiny = omega (arith, small (shifted-on c .shifted2 .result) (shifted-on c .before .shifted .result) (c .joint-digit2 .result) l-digit)
 
+  parity : 1 ≤ shifted-on c .before .shifted .result .low % 2 + shifted-on c .shifted2 .result .low % 2
+  parity =
+      let h = shifted-on c in
+      omega (
+        arith,
+        h .before .before .both-zeros .ensures .1 (omega (arith, first c .before .before .before .before .if2 .left, h .before .shifted .ensures .1 .1 .0)),
+        h .before .shifted .ensures .1 .1 .1,
+        h .shifted2 .ensures .1 .1 .1,
+      )
+
   enough : (3 ≤ shifted-on c .before .shifted .result .bits) × (3 ≤ shifted-on c .shifted2 .result .bits)
   enough = omega (arith, first c .before .before .before .before .if2 .left, odd (shifted-on c) .level)
 
@@ -224,6 +234,11 @@ add-place-2 : tie.Need-add-place-2 Inv-loop μ-loop
 add-place-2 c =
     let h = shifted-on (c .before .before .before .before) in omega (arith, within h, asked (turned h .before) .good)
 
+add-weight : tie.Need-add-weight Inv-loop μ-loop
+add-weight c =
+    let h = shifted-on (c .before .before .before .before) in
+    omega (arith, within h, few (given (turned h .before)) (h .before .shifted .result) (h .shifted2 .result) (some h) (odd h), asked (turned h .before) .good)
+
 loop-less-2 : tie.Need-loop-less-2 Inv-loop μ-loop
 loop-less-2 c =
     let h = shifted-on (c .before .before .before .before) in simp length-set (omega (arith, within h, odd h .k-long))
@@ -237,7 +252,7 @@ loop-again-2 c =
     let t = h .shifted2 .result in
     let x = first d .joint-digit .result in
     let y = d .joint-digit2 .result in
-    stored (given (turned h .before)) s t (some h) (odd h) (enough d .0) (enough d .1) x y (k-digit d) (l-digit d)
+    stored (given (turned h .before)) s t (some h) (odd h) (enough d .0) (enough d .1) (parity d) x y (k-digit d) (l-digit d)
     (c .before .byte-of .result) (c .byte-of2 .result)
     (c .before .byte-of .ensures ∙ ap byteOf (as-byte x (k-tiny d)))
     (c .byte-of2 .ensures ∙ ap byteOf (as-byte y (l-tiny d)))
@@ -280,5 +295,6 @@ write-columns-spec =
     byte-of-requires-2
     slice-write-l-out
     add-place-2
+    add-weight
     loop-less-2
     loop-again-2)

@@ -13,7 +13,7 @@ use Rattle.digits.specs.Scalar.{little, scalar, bitLength}
 use Rattle.digits.specs.Two.{P, Q, two}
 use Rattle.forms.specs.Joint.{joint}
 use Rattle.forms.specs.Joint.Length.{joint-length}
-use Rattle.recode.specs.Call.{filled}
+use Rattle.recode.specs.Call.{wroteColumns, filled}
 use Rattle.recode.proofs.Prefix.{first-length, first-cleared, first-filled, first-places, little-copied}
 use Rattle.recode.proofs.columns.write_joint.Statement.{statement}
 use Rattle.recode.proofs.columns.write_joint.Tie as tie
@@ -130,7 +130,7 @@ returns c =
     let w = c .before .before .before .before .write-columns in
     let n = c .before .before .before .before .before .before .before .before .before .before .before .before .before .before .before .before .before .before .before .larger .result + 1 in
     let cs = joint (pos (little (c .before .before .before .before .before .before .before .before .before .before .before .before .before .before .before .before .before .before .copied .result))) (pos (little (c .before .before .before .before .before .before .before .before .before .before .before .before .before .before .before .before .before .copied2 .result))) in (
-      w .ensures .0 ∙ ap₂ (λ (a b : ℕ). length (joint (pos a) (pos b))) (k-number k) (l-number k),
+      w .ensures .0 ∙ ap₂ (λ (a b : ℕ). wroteColumns (joint (pos a) (pos b))) (k-number k) (l-number k),
       (
         first-filled (c .before .before .before .before .before .before .before .before .before .before .before .before .before .before .before .before .before .before .before .before .before .before .before .before .before .before .args .k-out .now) (c .before .before .before .before .before .before .before .before .before .before .before .before .before .before .before .clear .last .0) n (c .before .before .before .before .before .before .before .before .before .before .before .before .before .before .before .clear .ensures) (k-enough k) (Column.row two P cs) _
             (omega (arith, short k, row-length two P cs)) (w .ensures .1 .0)

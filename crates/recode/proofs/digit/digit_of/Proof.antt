@@ -12,7 +12,7 @@ use mir.Facts.{toZ-pos, toZ-ofZ}
 use Rattle.digits.specs.Integer.Parts.{difference, one-side}
 use Rattle.digits.specs.Integer.Machine.{small-fits}
 use Rattle.forms.specs.Row.{digit}
-use Rattle.recode.proofs.Window.{half-bounds, masked, halfFrom, half-from, half-most, chosen, chosen-is}
+use Rattle.recode.proofs.Window.{half-bounds, masked, halfBeyond, half-beyond, half-most, chosen, chosen-is}
 use Rattle.recode.proofs.digit.digit_of.Statement.{statement}
 use Rattle.recode.proofs.digit.digit_of.Tie as tie
 
@@ -45,38 +45,32 @@ module _ (c : tie.Start) where
       ∙ chosen-is (c .args .m) (c .args .half) (c .args .x) (p .1 .1 .0) (p .1 .1 .1 .0) (p .1 .1 .1 .1) (p .0) (p .1 .0)
 
 -- the halves taken off
-module _ (c : tie.After-half-from2) where
-  halves : c .before .half-from .result + c .half-from2 .result ≡ halfFrom (bitAnd (c .before .before .args .x) (2 * c .before .before .args .half - 1)) (c .before .before .args .m + 1) (c .before .before .args .half) + halfFrom (bitAnd (c .before .before .args .x) (2 * c .before .before .args .half - 1)) (2 * c .before .before .args .half - c .before .before .args .m) (c .before .before .args .half)
+module _ (c : tie.After-half-beyond2) where
+  halves : c .before .half-beyond .result + c .half-beyond2 .result ≡ halfBeyond (bitAnd (c .before .before .args .x) (2 * c .before .before .args .half - 1)) (c .before .before .args .m) (c .before .before .args .half) + halfBeyond (bitAnd (c .before .before .args .x) (2 * c .before .before .args .half - 1)) (2 * c .before .before .args .half - 1 - c .before .before .args .m) (c .before .before .args .half)
   halves =
-      ap₂ (λ (a b : ℕ). a + b) (half-from _ _ _ (c .before .half-from .result) (c .before .half-from .ensures))
-      (half-from _ _ _ (c .half-from2 .result) (c .half-from2 .ensures))
+      ap₂ (λ (a b : ℕ). a + b) (half-beyond _ _ _ (c .before .half-beyond .result) (c .before .half-beyond .ensures))
+      (half-beyond _ _ _ (c .half-beyond2 .result) (c .half-beyond2 .ensures))
 
-  few : c .before .half-from .result + c .half-from2 .result ≤ 64
+  few : c .before .half-beyond .result + c .half-beyond2 .result ≤ 64
   few =
       let a = c .before .before .args in
       let low = bitAnd (a .x) (2 * a .half - 1) in
-      omega (arith, halves, bounds (c .before .before), half-most low (a .m + 1) (a .half), half-most low (2 * a .half - a .m) (a .half))
+      omega (arith, halves, bounds (c .before .before), half-most low (a .m) (a .half), half-most low (2 * a .half - 1 - a .m) (a .half))
 
-mul-low : tie.Need-mul-low
-mul-low c = omega (arith, bounds c)
+mul-all : tie.Need-mul-all
+mul-all c = omega (arith, bounds c)
 
-sub-low : tie.Need-sub-low
-sub-low c = omega (arith, bounds c)
+sub-all : tie.Need-sub-all
+sub-all c = omega (arith, bounds c)
 
-add-half-from : tie.Need-add-half-from
-add-half-from c = search needs
+half-beyond-requires : tie.Need-half-beyond-requires
+half-beyond-requires c κs = search needs
 
-half-from-requires : tie.Need-half-from-requires
-half-from-requires c κs = search needs
+sub-half-beyond : tie.Need-sub-half-beyond
+sub-half-beyond c = omega (arith, bounds (c .before))
 
-mul-half-from : tie.Need-mul-half-from
-mul-half-from c = omega (arith, bounds (c .before))
-
-sub-half-from : tie.Need-sub-half-from
-sub-half-from c = omega (arith, bounds (c .before))
-
-half-from-requires-2 : tie.Need-half-from-requires-2
-half-from-requires-2 c κs = search needs
+half-beyond-requires-2 : tie.Need-half-beyond-requires-2
+half-beyond-requires-2 c κs = search needs
 
 cast-result : tie.Need-cast-result
 cast-result c = small-fits (pos _) (omega (arith, small (c .before .before)))
@@ -101,13 +95,11 @@ pub digit-of-spec : {M : Type 1} → statement M
 digit-of-spec =
     tie.close
     (tie.spec
-    mul-low
-    sub-low
-    add-half-from
-    half-from-requires
-    mul-half-from
-    sub-half-from
-    half-from-requires-2
+    mul-all
+    sub-all
+    half-beyond-requires
+    sub-half-beyond
+    half-beyond-requires-2
     cast-result
     add-result
     cast-result-2

@@ -10,7 +10,7 @@ use Rattle.digits.specs.Scalar.Value.{length-bytes}
 use Rattle.digits.specs.Scalar.{little, scalar, bitLength}
 use Rattle.forms.specs.Row.{row}
 use Rattle.forms.specs.Row.Length.{row-length}
-use Rattle.recode.specs.Call.{filled}
+use Rattle.recode.specs.Call.{wroteRow, filled}
 use Rattle.recode.proofs.Prefix.{first-length, first-cleared, first-filled, little-copied}
 use Rattle.recode.proofs.rows.write_row.Statement.{statement}
 use Rattle.recode.proofs.rows.write_row.Tie as tie
@@ -94,7 +94,7 @@ returns c =
     let out = k .before .before .before .before .before .before .args .out .now in
     let m = k .before .before .before .before .before .before .args .m in
     let bits = k .before .before .before .bits-of .result in (
-      w .ensures .0 ∙ ap (λ (n : ℕ). length (row m (pos n))) (number k),
+      w .ensures .0 ∙ ap (λ (n : ℕ). wroteRow (row m (pos n))) (number k),
       first-filled out (k .clear .last .0) (bits + 1) (k .clear .ensures) (enough k) (row m (pos (little (k .before .before .copied .result)))) _ (short k) (w .ensures .1)
           ∙ ap (λ (n : ℕ). filled (row m (pos n)) out) (number k),
     )

@@ -4,7 +4,7 @@ use mathlib.Core.Bool.{and-eq-true-iff}
 use Rattle.digits.specs.Scalar.{sized}
 use Rattle.digits.specs.Limits.{card}
 use Rattle.written.specs.Valid.{forJ}
-use Rattle.writer.proofs.DigitRows.{in-bounds, joint-holds, joint-places}
+use Rattle.writer.proofs.DigitRows.{in-bounds, joint-holds, joint-counts}
 use borrow.Author.Needs.{needs}
 use Rattle.writer.proofs.plans.write_j.Statement.{statement}
 use Rattle.writer.proofs.plans.write_j.Tie as tie
@@ -18,23 +18,29 @@ slice-aggregate-joint-2 c = search needs
 joint-requires : tie.Need-joint-requires
 joint-requires c κs = search needs
 
-places-of-requires : tie.Need-places-of-requires
-places-of-requires c κs = search needs
+places-requires : tie.Need-places-requires
+places-requires c κs = search needs
+
+weight-requires : tie.Need-weight-requires
+weight-requires c κs = search needs
 
 write-sheet-requires : tie.Need-write-sheet-requires
 write-sheet-requires c κs =
-    let j = c .before .before .before .before .before .before in
-    let s = c .before .before .before .before .before .before .before .before .before .before in
-    let a = c .before .before .before .before .before .before .before .before .before .before .before .before in
+    let w = c .before .before .before in
+    let j = w .before .before .before .before in
+    let s = j .before .before .before .before in
+    let a = s .before .before in
     let k = a .args .k .now in
     let l = a .args .l .now in
     let z = and-eq-true-iff (sized card k) (sized card l) .0 (a .pre .0) in
+    let n = joint-counts k l (a .pre .0) (j .joint .ensures .0) (w .before .places .ensures) (w .weight .ensures) in
     record {
       valid = forJ;
       k-bounded = in-bounds k (λ i. s .before .shared-slice-known .given i .fits) (z .0);
       l-bounded = in-bounds l (λ i. s .shared-slice-known2 .given i .fits) (z .1);
       held = joint-holds k l _ _ (a .pre .0) refl refl (j .joint .ensures .1 .0) (j .joint .ensures .1 .1 .0);
-      long = joint-places k l (a .pre .0) (j .joint .ensures .0) (c .before .before .before .places-of .ensures);
+      long = n .0;
+      heavy = n .1;
       room = a .pre .1;
     }
 
@@ -51,7 +57,8 @@ write-j-spec =
     slice-aggregate-joint
     slice-aggregate-joint-2
     joint-requires
-    places-of-requires
+    places-requires
+    weight-requires
     write-sheet-requires
     same-length
     returns)

@@ -1,0 +1,73 @@
+-- How long and how heavy what a call writes can be, whatever was asked: 8 places for each byte of the longest scalar and one more.
+use mathlib.Core.Path.{_≡_}
+use mathlib.Core.Bool.{Bool, true, _&&_, cond}
+use mathlib.Core.List.{List}
+use Prim.Native.Nat.{ℕ, _+_, _*_, _≤_, max}
+use native.Mathlib.Omega.{arith}
+use lib.IntN.{pos}
+use lib.ListN.{length}
+use Rattle.digits.specs.Column.Weight as Columns
+use Rattle.digits.specs.Limits.{Limits}
+use Rattle.digits.specs.Missed.{either-way}
+use Rattle.digits.specs.Row.{isWindow}
+use Rattle.digits.specs.Row.Weight as Rows
+use Rattle.digits.specs.Row.Window.{window-parts}
+use Rattle.digits.specs.Scalar.{Bytes, scalar, sized}
+use Rattle.digits.specs.Scalar.Sized.{both, some-bytes}
+use Rattle.digits.specs.Scalar.Value.{length-bytes}
+use Rattle.digits.specs.Two.{two}
+use Rattle.forms.specs.Joint.{joint}
+use Rattle.forms.specs.Promise.{row-length, joint-length}
+use Rattle.forms.specs.Row.{row}
+use Rattle.recode.specs.declared.answer.Recoded.{Recoded}
+use Rattle.recode.specs.declared.answer.Recoded.the-variants.{BadScalar, BadWindow, NoRoom}
+use Rattle.recode.specs.Call.{placesWritten, weightWritten, wroteRow, wroteColumns, roomy, rowAnswer, jointAnswer}
+
+-- an answer with at most n places, of which no more count than there are
+pub record Short (n : ℕ) (r : Recoded) : Type 0 where
+  pub length-most : placesWritten r ≤ n
+  pub weight-most : weightWritten r ≤ placesWritten r
+
+module _ (limits : Limits) where
+  abbrev most : ℕ
+  most = 8 * limits .bytes + 1
+
+  row-places : (s : List ℕ) (m : ℕ) → Bytes s → sized limits s ≡ true → isWindow m ≡ true → length (row m (pos (scalar s))) ≤ most
+  row-places s m bytes e w =
+      let (odd, within) = window-parts m w in
+      omega (arith, row-length m (scalar s) (omega arith), length-bytes s bytes, some-bytes limits s e .1)
+
+  -- a row
+  pub row-short : (s : List ℕ) (m places : ℕ) → Bytes s → Short most (rowAnswer limits s m places)
+  unfolding rowAnswer
+  row-short s m places bytes =
+      let written : Recoded = wroteRow (row m (pos (scalar s))) in
+      let room : Bool = roomy (length s) places in
+      let asked : Recoded = cond room written NoRoom in
+      either-way (Short most) (sized limits s) (cond (isWindow m) asked BadWindow) BadScalar
+      (λ e. either-way (Short most) (isWindow m) asked BadWindow
+      (λ w. either-way (Short most) room written NoRoom
+      (λ _. record { length-most = row-places s m bytes e w; weight-most = Rows.weight-most (row m (pos (scalar s))) }) (omega arith)) (omega arith)) (omega arith)
+
+  joint-places : (s t : List ℕ) → Bytes s → Bytes t → (sized limits s && sized limits t) ≡ true → length (joint (pos (scalar s)) (pos (scalar t))) ≤ most
+  joint-places s t s-bytes t-bytes e =
+      let (a, b) = both (sized limits s) (sized limits t) e in
+      omega (
+        arith,
+        joint-length (scalar s) (scalar t),
+        length-bytes s s-bytes,
+        length-bytes t t-bytes,
+        some-bytes limits s a .1,
+        some-bytes limits t b .1,
+      )
+
+  -- a joint form
+  pub joint-short : (s t : List ℕ) (places places′ : ℕ) → Bytes s → Bytes t → Short most (jointAnswer limits s t places places′)
+  unfolding jointAnswer
+  joint-short s t places places′ s-bytes t-bytes =
+      let longer : ℕ = max (length s) (length t) in
+      let room : Bool = roomy longer places && roomy longer places′ in
+      let written : Recoded = wroteColumns (joint (pos (scalar s)) (pos (scalar t))) in
+      either-way (Short most) (sized limits s && sized limits t) (cond room written NoRoom) BadScalar
+      (λ e. either-way (Short most) room written NoRoom
+      (λ _. record { length-most = joint-places s t s-bytes t-bytes e; weight-most = Columns.weight-most two (joint (pos (scalar s)) (pos (scalar t))) }) (omega arith)) (omega arith)

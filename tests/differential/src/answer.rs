@@ -1,0 +1,168 @@
+//! The answers to the calls: the number that each returns, and what it leaves in the buffers.
+
+use crate::reader::Refusal;
+use crate::sheet::{columns, Sheet};
+use crate::{joint, row};
+
+/// The answer to a call.
+#[derive(Clone, PartialEq, Eq, Debug)]
+pub enum Answer {
+    /// The number of the question missed; the line is 0 for all calls but the reader.
+    Refused(Refusal),
+    /// One row.
+    Row(Vec<i8>),
+    /// Two rows over the same places.
+    Columns(Vec<i8>, Vec<i8>),
+    /// Two rows over the same places, and the codes of each.
+    Coded { k_row: Vec<i8>, l_row: Vec<i8>, k_codes: Vec<u8>, l_codes: Vec<u8> },
+    /// A sheet and its additions.
+    Sheet { bytes: Vec<u8>, additions: usize },
+    /// The reader accepts.
+    Accepted,
+}
+
+impl Answer {
+    pub fn refused(number: u32, line: usize) -> Answer {
+        Answer::Refused(Refusal { number, line })
+    }
+
+    pub fn sheet(sheet: &Sheet) -> Answer {
+        Answer::Sheet { bytes: sheet.to_bytes(), additions: sheet.additions() }
+    }
+
+    /// The number that the C call returns: in bits 32 to 63 the question missed; below them the
+    /// reader's line, or what was written.
+    pub fn code(&self) -> u64 {
+        match self {
+            Answer::Refused(Refusal { number, line }) => u64::from(*number) << 32 | *line as u64,
+            Answer::Row(digits) => written(digits.len(), row::weight(digits)),
+            Answer::Columns(k_row, l_row) | Answer::Coded { k_row, l_row, .. } => {
+                written(k_row.len(), joint::weight(&columns(k_row, l_row)))
+            }
+            Answer::Sheet { bytes, additions } => written(bytes.len(), *additions),
+            Answer::Accepted => 0,
+        }
+    }
+
+    /// What the buffers hold after the call, given what they held before.
+    pub fn leave_in(&self, buffers: &mut [Vec<u8>]) {
+        match (self, buffers) {
+            (Answer::Row(digits), [buffer]) => leave_digits(digits, buffer),
+            (Answer::Columns(k_row, l_row), [k_buffer, l_buffer]) => {
+                leave_digits(k_row, k_buffer);
+                leave_digits(l_row, l_buffer);
+            }
+            (
+                Answer::Coded { k_row, l_row, k_codes, l_codes },
+                [k_digits, l_digits, k_buffer, l_buffer],
+            ) => {
+                leave_digits(k_row, k_digits);
+                leave_digits(l_row, l_digits);
+                leave_bytes(k_codes, k_buffer);
+                leave_bytes(l_codes, l_buffer);
+            }
+            (Answer::Sheet { bytes, .. }, [buffer]) => {
+                buffer[..bytes.len()].copy_from_slice(bytes);
+            }
+            (Answer::Refused(_) | Answer::Accepted, _) => {}
+            _ => unreachable!("every answer has its own number of buffers"),
+        }
+    }
+}
+
+/// In bits 0 to 15 the length; in bits 16 to 31 the weight, or the additions.
+fn written(length: usize, count: usize) -> u64 {
+    let part = |number| u64::from(u16::try_from(number).expect("a number of 16 bits"));
+    part(count) << 16 | part(length)
+}
+
+/// The digits in two's complement; the unused places hold 0.
+fn leave_digits(digits: &[i8], buffer: &mut [u8]) {
+    let bytes: Vec<u8> = digits.iter().map(|&digit| digit as u8).collect();
+    leave_bytes(&bytes, buffer);
+}
+
+/// The bytes, and 0 at the unused places.
+fn leave_bytes(bytes: &[u8], buffer: &mut [u8]) {
+    let (used, unused) = buffer.split_at_mut(bytes.len());
+    used.copy_from_slice(bytes);
+    unused.fill(0);
+}
+
+#[cfg(test)]
+mod tests {
+    use super::*;
+    use crate::calls::parse;
+    use crate::plan::Plan;
+    use crate::reader::LONGEST_SHEET;
+    use crate::scalars;
+
+    /// The code of the reference's answer to the call that these words print.
+    fn code(call: &str) -> u64 {
+        let words: Vec<&str> = call.split(' ').collect();
+        parse(&words).expect("a call").answer().code()
+    }
+
+    #[test]
+    fn codes_of_rows_and_joint_forms() {
+        assert_eq!(code("row 00 1 9"), 0);
+        assert_eq!(code("row 07 1 9"), 0x0002_0004);
+        assert_eq!(code("row 07 5 9"), 0x0002_0004);
+        assert_eq!(code("row 35 3 9"), 0x0003_0007);
+        assert_eq!(code("joint 00 00 9 9"), 0);
+        assert_eq!(code("joint 0d 0a 9 9"), 0x0004_0005);
+        assert_eq!(code("joint 07 02 9 9"), 0x0003_0004);
+        assert_eq!(code("joint-codes 0d 0a 9 9 9 9"), 0x0004_0005);
+    }
+
+    #[test]
+    fn codes_of_sheets() {
+        assert_eq!(code("cheapest 07 02 0 16384"), 2 << 16 | 45);
+        assert_eq!(code("cheapest 03 00 1 16384"), 1 << 16 | 37);
+        assert_eq!(code("plan-i 00 00 1 1 16384"), 20);
+        assert_eq!(code("plan-i 09 00 5 1 16384"), 3 << 16 | 56);
+        assert_eq!(code("plan-j 0d 0a 16384"), 5 << 16 | 67);
+    }
+
+    #[test]
+    fn codes_of_refusals_and_of_the_reader() {
+        assert_eq!(code("row - 4 0"), 1 << 32);
+        assert_eq!(code("row 07 4 9"), 2 << 32);
+        assert_eq!(code("joint 0d 0a 8 9"), 3 << 32);
+        assert_eq!(code("cheapest 07 02 32 16384"), 4 << 32);
+        assert_eq!(code("read -"), 6 << 32 | 1);
+        assert_eq!(Answer::refused(9, 531).code(), 9 << 32 | 531);
+        assert_eq!(Answer::refused(11, 0x1_2345).code(), 0x0000_000b_0001_2345);
+        assert_eq!(Answer::Accepted.code(), 0);
+    }
+
+    /// A row and a joint form with as many digits and columns that are not zero as the rules allow,
+    /// sheets of every plan, and the longest sheet with the most additions that a header can state.
+    #[test]
+    fn every_part_has_room_for_the_largest_answers() {
+        let dense = scalars::value(&scalars::dense());
+        assert_eq!(Answer::Row(row::recode(dense, 1)).code(), 265 << 16 | 529);
+        let (k, l) = scalars::dense_pair();
+        let columns = joint::recode(scalars::value(&k), scalars::value(&l));
+        let (k_row, l_row) = joint::rows(&columns);
+        assert_eq!(Answer::Columns(k_row, l_row).code(), 352 << 16 | 527);
+        for plan in Plan::all() {
+            let sheet = Sheet::of_plan(plan, dense, dense);
+            let (length, additions) = (sheet.to_bytes().len(), sheet.additions());
+            assert!(length <= LONGEST_SHEET && additions <= 529);
+            assert_eq!(Answer::sheet(&sheet).code(), (additions << 16 | length) as u64);
+        }
+        let longest = Answer::Sheet { bytes: vec![b'D'; LONGEST_SHEET], additions: 9_999 };
+        assert_eq!(longest.code(), 9_999 << 16 | 16_384);
+    }
+
+    #[test]
+    fn unused_places_hold_zero() {
+        let mut buffers = [vec![9; 5]];
+        Answer::Row(vec![-1, 0, 1]).leave_in(&mut buffers);
+        assert_eq!(buffers[0], [255, 0, 1, 0, 0]);
+        let mut buffers = [vec![9; 5]];
+        Answer::Sheet { bytes: b"E\n".to_vec(), additions: 0 }.leave_in(&mut buffers);
+        assert_eq!(buffers[0], *b"E\n\x09\x09\x09");
+    }
+}
