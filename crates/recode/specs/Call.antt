@@ -39,7 +39,7 @@ placesWritten BadWindow = 0
 placesWritten NoRoom = 0
 placesWritten (Written n w) = n
 
--- how many of the digits written are not 0, and of a joint form how many columns
+-- how many of the digits written are not 0, and of a joint form how many of the columns are not zero
 abbrev pub weightWritten : Recoded → ℕ
 weightWritten BadScalar = 0
 weightWritten BadWindow = 0

@@ -9,7 +9,7 @@ pub enum Recoded {
     BadWindow,
     // Question 3: a digit buffer has at least 8 places for each byte, and one more.
     NoRoom,
-    // The length, and the weight: how many digits are not 0, and of a joint form how many columns.
+    // The length, and the weight: how many digits are not 0, and of a joint form how many columns are not zero.
     Written(usize, usize),
 }
 
@@ -38,7 +38,7 @@ impl Recoded {
         }
     }
 
-    // How many digits that are not 0 were written, or how many columns.
+    // How many of the digits written are not 0, or how many of the columns are not zero.
     pub fn weight(self) -> usize
         ensures { λ r. ⌜ r ≡ weightWritten self ⌝ }
     {
