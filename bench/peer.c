@@ -302,6 +302,15 @@ static unsigned less_one(unsigned n)
     return n == 0 ? 0 : n - 1;
 }
 
+/* The rows of plan I, over the same places. */
+static struct recoded side_by_side(struct recoded first, struct recoded second)
+{
+    if (first.places < second.places)
+        first.places = second.places;
+    first.weight += second.weight;
+    return first;
+}
+
 /* ---- the sheet ---- */
 
 /* Each of these writes bytes at p and returns the place behind them. */
@@ -431,16 +440,9 @@ static uint8_t *put_places(uint8_t *p, int joint, const uint8_t *k_digits, const
 static struct recoded recode_plan(struct plan plan, const struct bits *k, const struct bits *l, uint8_t *k_digits,
                                   uint8_t *l_digits)
 {
-    struct recoded first, second;
-
     if (plan.joint)
         return recode_joint(k, l, k_digits, l_digits);
-    first = recode_row(k, plan.m1, k_digits);
-    second = recode_row(l, plan.m2, l_digits);
-    if (first.places < second.places)
-        first.places = second.places;
-    first.weight += second.weight;
-    return first;
+    return side_by_side(recode_row(k, plan.m1, k_digits), recode_row(l, plan.m2, l_digits));
 }
 
 /* Writes the sheet of a plan and returns its length and its additions. */
@@ -489,7 +491,7 @@ uint64_t peer_plan_i(const uint8_t *k, size_t kn, const uint8_t *l, size_t ln, u
 
 /* ---- the cheapest sheet ---- */
 
-/* Only the weights count here, so the places need not hold 0. */
+/* Only the lengths and the weights count here, so the places need not hold 0. */
 
 /* How many of the windows 1, 3, .. 31 a plan I within the limit can have: one slot is for the double, and each behind 1 needs one more. */
 static unsigned windows_within(unsigned limit)
@@ -497,33 +499,35 @@ static unsigned windows_within(unsigned limit)
     return limit < 2 ? 1 : limit < WINDOWS ? limit : WINDOWS;
 }
 
-/* The weights of a scalar's rows for these windows. */
-static void weigh_rows(const struct bits *b, unsigned limit, unsigned *weights)
+/* A scalar's rows for these windows. */
+static void measure_rows(const struct bits *b, unsigned limit, struct recoded *rows)
 {
     uint8_t digits[PLACES];
 
     for (unsigned i = 0; i < windows_within(limit); i++)
-        weights[i] = recode_row(b, 2 * i + 1, digits).weight;
+        rows[i] = recode_row(b, 2 * i + 1, digits);
 }
 
-static unsigned weigh_joint(const struct bits *k, const struct bits *l)
+static struct recoded measure_joint(const struct bits *k, const struct bits *l)
 {
     uint8_t k_digits[PLACES], l_digits[PLACES];
 
-    return recode_joint(k, l, k_digits, l_digits).weight;
+    return recode_joint(k, l, k_digits, l_digits);
 }
 
-/* Additions first, then slots. */
-static unsigned cost_of(struct plan plan, unsigned weight)
+/* Additions first, then doublings, then slots. The load and the top place, which a sheet does not count, are counted for every plan alike. */
+static unsigned cost_of(struct plan plan, struct recoded r)
 {
-    return (table_additions(plan) + less_one(weight)) * 64 + slots_of(plan);
+    unsigned additions = table_additions(plan) + r.weight, doublings = table_doublings(plan) + r.places;
+
+    return (additions * 1024 + doublings) * 64 + slots_of(plan);
 }
 
 /* The first of the least plans within the limit: J, then the plans I by m1. */
-static struct plan choose(const unsigned *k_weights, const unsigned *l_weights, unsigned joint, unsigned limit)
+static struct plan choose(const struct recoded *k_rows, const struct recoded *l_rows, struct recoded joint, unsigned limit)
 {
     struct plan best = plan_i(1, 1);
-    unsigned least = cost_of(best, k_weights[0] + l_weights[0]);
+    unsigned least = cost_of(best, side_by_side(k_rows[0], l_rows[0]));
 
     if (JOINT_SLOTS <= limit && cost_of(plan_j(), joint) < least) {
         best = plan_j();
@@ -532,7 +536,7 @@ static struct plan choose(const unsigned *k_weights, const unsigned *l_weights, 
     for (unsigned i = 0; i < windows_within(limit); i++)
         for (unsigned j = 0; j < WINDOWS && slots_of(plan_i(2 * i + 1, 2 * j + 1)) <= limit; j++) {
             struct plan plan = plan_i(2 * i + 1, 2 * j + 1);
-            unsigned cost = cost_of(plan, k_weights[i] + l_weights[j]);
+            unsigned cost = cost_of(plan, side_by_side(k_rows[i], l_rows[j]));
 
             if (cost < least) {
                 best = plan;
@@ -544,7 +548,7 @@ static struct plan choose(const unsigned *k_weights, const unsigned *l_weights, 
 
 uint64_t peer_cheapest(const uint8_t *k, size_t kn, const uint8_t *l, size_t ln, uint32_t limit, uint8_t *sheet, size_t room)
 {
-    unsigned k_weights[WINDOWS], l_weights[WINDOWS], joint;
+    struct recoded k_rows[WINDOWS], l_rows[WINDOWS], joint = {0, 0};
     struct bits kb, lb;
 
     if (!is_scalar(kn) || !is_scalar(ln))
@@ -555,10 +559,11 @@ uint64_t peer_cheapest(const uint8_t *k, size_t kn, const uint8_t *l, size_t ln,
         return refusal(3, 0);
     kb = bits_of(k, kn);
     lb = bits_of(l, ln);
-    weigh_rows(&kb, limit, k_weights);
-    weigh_rows(&lb, limit, l_weights);
-    joint = JOINT_SLOTS <= limit ? weigh_joint(&kb, &lb) : 0;
-    return write_sheet(choose(k_weights, l_weights, joint, limit), &kb, &lb, sheet);
+    measure_rows(&kb, limit, k_rows);
+    measure_rows(&lb, limit, l_rows);
+    if (JOINT_SLOTS <= limit)
+        joint = measure_joint(&kb, &lb);
+    return write_sheet(choose(k_rows, l_rows, joint, limit), &kb, &lb, sheet);
 }
 
 /* ---- the reader ---- */

@@ -70,8 +70,9 @@ uint64_t sheets_plan_j(const uint8_t *k, size_t kn, const uint8_t *l, size_t ln,
 uint64_t sheets_plan_i(const uint8_t *k, size_t kn, const uint8_t *l, size_t ln, uint32_t m1, uint32_t m2, uint8_t *sheet, size_t room);
 
 /*
- * The cheapest sheet over plan J and all plans I that need no more slots than the limit. Questions 1, 4, 3. Plan J needs 2 slots, plan I
- * (m1 + m2 - 2) / 2 for the multiples that it stores, and 1 for the double of P, and later of Q, if m1 or m2 is 3 or more.
+ * The cheapest sheet over plan J and all plans I that need no more slots than the limit: fewest additions; then fewest doublings; then fewest
+ * slots; then J before I; then smaller m1. Questions 1, 4, 3. Plan J needs 2 slots, plan I (m1 + m2 - 2) / 2 for the multiples that it stores,
+ * and 1 for the double of P, and later of Q, if m1 or m2 is 3 or more.
  */
 uint64_t sheets_cheapest(const uint8_t *k, size_t kn, const uint8_t *l, size_t ln, uint32_t limit, uint8_t *sheet, size_t room);
 

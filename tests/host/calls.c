@@ -712,6 +712,12 @@ static void sheets(void)
     header_is(cheapest(1), byte(45), byte(0), 3, "S,I,1,1,0,3,6,2d,0\n", __LINE__);
     header_is(cheapest(2), byte(45), byte(0), 2, "S,I,3,1,2,2,5,2d,0\n", __LINE__);
 
+    /* of equal additions fewer doublings decide, whatever slots they take; of equal doublings too fewer slots do */
+    header_is(cheapest(2), byte(3), byte(0), 1, "S,I,3,1,2,1,1,3,0\n", __LINE__);
+    header_is(cheapest(2), byte(6), byte(11), 4, "S,J,1,1,2,4,3,6,b\n", __LINE__);
+    header_is(cheapest(2), byte(45), byte(11), 5, "S,I,3,1,2,5,5,2d,b\n", __LINE__);
+    header_is(cheapest(2), byte(3), byte(3), 3, "S,I,1,1,0,3,2,3,3\n", __LINE__);
+
     /* sheets of a named plan */
     sheet_is(plan_i(1, 1), byte(7), byte(2), 2, seven_two, __LINE__);
     sheet_is(plan_j, byte(13), byte(10), 5, thirteen_ten, __LINE__);

@@ -1,4 +1,5 @@
--- The answer and the buffer of the call for the cheapest sheet, by the first question missed, and where all are met.
+-- The answer of the call for the plan, and the answer and the buffer of that for its sheet, by the first question missed, and where all
+-- are met.
 use mathlib.Core.Path.{_≡_, refl, sym, ap, _∙_}
 use mathlib.Core.Bool.{true, false, _&&_, cond}
 use mathlib.Core.List.{List}
@@ -16,11 +17,39 @@ use Rattle.written.specs.Written.{written}
 use Rattle.writer.specs.declared.answer.Sheet.{Sheet}
 use Rattle.writer.specs.declared.answer.Sheet.the-variants.{BadScalar, NoRoom, BadLimit}
 use Rattle.writer.specs.Call.{number, roomy, wrote, left, jAnswer, jBuffer, iAnswer, iBuffer}
+use Rattle.chooser.specs.declared.call.Choice.{Choice}
+use Rattle.chooser.specs.declared.call.Choice.the-variants as Choices
 use Rattle.chooser.specs.Body.Choice.{planAnswer, planBuffer}
-use Rattle.chooser.specs.Call.{cheapestQuestion, cheapestAnswer, cheapestBuffer, Promised}
+use Rattle.chooser.specs.Call.{choiceNumber, choiceQuestion, choiceAnswer, ChoicePromised, cheapestQuestion, cheapestAnswer, cheapestBuffer, Promised}
 use Rattle.chooser.specs.Cheapest.{cheapestPlan, cheapest}
 use Rattle.chooser.specs.Cheapest.Least.{plan-within}
-use Rattle.chooser.specs.Call.Demand.{cheapest-promised, cheapest-question}
+use Rattle.chooser.specs.Call.Demand.{choice-promised, choice-question, cheapest-promised, cheapest-question}
+
+-- ── the plan ────────────────────────────────────────────────────────────────────────────────
+
+module _ (k l : List ℕ) (limit : ℕ) where
+  -- what the call returns
+  abbrev pub Chosen : Choice → Type 0
+  Chosen a =
+      (a ≡ choiceAnswer card k l limit)
+      × (ChoicePromised a (scalar k) (scalar l) limit × (choiceNumber a ≡ choiceQuestion card k l limit))
+
+  chosen : {a : Choice} → a ≡ choiceAnswer card k l limit → Chosen a
+  chosen e = rw e (refl, (choice-promised card k l limit, choice-question card k l limit))
+
+  pub no-scalars : (sized card k && sized card l) ≡ false → Chosen Choices.BadScalar
+  unfolding choiceAnswer
+  no-scalars e = chosen (sym (rw e))
+
+  pub no-limit : (sized card k && sized card l) ≡ true → isLimit limit ≡ false → Chosen Choices.BadLimit
+  unfolding choiceAnswer
+  no-limit e h = chosen (sym (rw (e, h)))
+
+  pub the-plan : (sized card k && sized card l) ≡ true → isLimit limit ≡ true → {p : Plan} → p ≡ cheapestPlan (scalar k) (scalar l) limit → Chosen (Choices.Is p)
+  unfolding choiceAnswer
+  the-plan e h g = chosen (ap (λ (p : Plan). Choices.Is p) g ∙ sym (rw (e, h)))
+
+-- ── its sheet ───────────────────────────────────────────────────────────────────────────────
 
 module _ (k l buffer : List ℕ) (limit : ℕ) where
   -- what the call returns and leaves, where its answer is a

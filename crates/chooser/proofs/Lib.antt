@@ -1,4 +1,4 @@
-pub mod Weighing
+pub mod Measuring
 pub mod Windows
 pub mod Numbers
 pub mod Limit

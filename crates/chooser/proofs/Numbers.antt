@@ -1,8 +1,8 @@
 -- The plan with a number: the list of all plans, counted from 0.
 use mathlib.Core.Path.{_≡_, refl, sym, ap, _∙_}
 use mathlib.Core.Bool.{cond}
-use mathlib.Core.List.{List, [], _∷_, map}
-use Prim.Native.Nat.{ℕ, zero, suc, _+_, _-_, _*_, _/_, _%_, _<_}
+use mathlib.Core.List.{List, map}
+use Prim.Native.Nat.{ℕ, _+_, _-_, _*_, _/_, _%_, _<_}
 use native.Mathlib.Omega.{arith}
 use borrow.Author.Tests.{ne-eqb}
 use lib.Dec.{eqb}
@@ -11,27 +11,18 @@ use Rattle.sheet.specs.declared.Plan.{Plan}
 use Rattle.sheet.specs.declared.Plan.the-variants.{J, I}
 use Rattle.sheet.specs.Plan.{odds}
 use Rattle.chooser.specs.Cheapest.{plans, interleaved}
+use Rattle.chooser.specs.Numbers.{from, from-at}
 
 abbrev pub numbered : ℕ → Plan
 numbered n = cond (eqb n 0) J (I (2 * ((n - 1) / 16) + 1) (2 * ((n - 1) % 16) + 1))
-
-from : ℕ → ℕ → List ℕ
-from i zero = []
-from i (suc n) = i ∷ from (1 + i) n
 
 -- one computed test
 all : map numbered (from 0 257) ≡ plans
 unfolding from plans interleaved odds
 all = refl
 
-at-from : (i n j : ℕ) → j < n → getD (map numbered (from i n)) j J ≡ numbered (i + j)
-unfolding from
-at-from i zero j h = absurd (omega arith)
-at-from i (suc n) zero h = let e : i ≡ i + 0 = omega arith in ap numbered e
-at-from i (suc n) (suc j) h = let e : 1 + i + j ≡ i + suc j = omega arith in at-from (1 + i) n j (omega arith) ∙ ap numbered e
-
 pub plan-number : (n : ℕ) → n < 257 → getD plans n J ≡ numbered n
-plan-number n h = let e : 0 + n ≡ n = omega arith in ap (λ (l : List Plan). getD l n J) (sym all) ∙ at-from 0 257 n h ∙ ap numbered e
+plan-number n h = let e : 0 + n ≡ n = omega arith in ap (λ (l : List Plan). getD l n J) (sym all) ∙ from-at numbered J 0 257 n h ∙ ap numbered e
 
 pub first-plan : (n : ℕ) → n ≡ 0 → J ≡ getD plans n J
 unfolding plans

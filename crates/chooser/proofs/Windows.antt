@@ -1,4 +1,4 @@
--- Filling the weights of the sixteen windows, one a turn.
+-- Filling the sizes of the sixteen windows, one a turn.
 use mathlib.Core.Path.{_≡_, refl, ap, _∙_}
 use mathlib.Core.List.{List, [], _∷_, _++_, map, append-assoc, append-nil}
 use Prim.Native.Nat.{ℕ, zero, suc, _+_, _-_, _*_, _<_}
@@ -8,7 +8,8 @@ use lib.ListN.{length, getD, set, take, replicate, length-map}
 use lib.Seq.{set-at, take-suc, take-all, length-take-le}
 use Rattle.sheet.specs.Plan.{odds}
 use Rattle.chooser.specs.Cheapest.{windows}
-use Rattle.chooser.specs.Body.Weights.{rowWeight, rowWeights}
+use Rattle.chooser.specs.declared.sizes.Size.{Size}
+use Rattle.chooser.specs.Body.Sizes.{none, rowSize, numbers, rowSizes}
 
 getD-odds : (d n i : ℕ) → i < n → getD (odds d n) i 0 ≡ d + 2 * i
 unfolding odds
@@ -21,21 +22,41 @@ unfolding odds
 length-odds d zero = refl
 length-odds d (suc n) = ap suc (length-odds (2 + d) n)
 
--- there are sixteen weights, and that of the window 2 i + 1 is the i-th
-pub weights-length : (limit k : ℕ) → length (rowWeights limit k) ≡ 16
-unfolding rowWeights
-weights-length limit k = length-map windows (rowWeight limit k) ∙ length-odds 1 16
+map-at : {A : Type 0} (f : ℕ → A) (d : A) (l : List ℕ) (i : ℕ) → i < length l → getD (map f l) i d ≡ f (getD l i 0)
+map-at f d [] i h = absurd (omega arith)
+map-at f d (x ∷ l) zero h = refl
+map-at f d (x ∷ l) (suc i) h = map-at f d l i (omega arith)
 
-map-at : (f : ℕ → ℕ) (l : List ℕ) (i : ℕ) → i < length l → getD (map f l) i 0 ≡ f (getD l i 0)
-map-at f [] i h = absurd (omega arith)
-map-at f (x ∷ l) zero h = refl
-map-at f (x ∷ l) (suc i) h = map-at f l i (omega arith)
+-- of the numbers of sizes, two are those of each
+numbers-length : (ss : List Size) → length (numbers ss) ≡ 2 * length ss
+unfolding numbers
+numbers-length [] = refl
+numbers-length (s ∷ ss) = omega (arith, numbers-length ss)
 
-pub weights-at : (limit k i : ℕ) → i < 16 → getD (rowWeights limit k) i 0 ≡ rowWeight limit k (2 * i + 1)
-unfolding rowWeights
-weights-at limit k i h =
-    let e : 1 + 2 * i ≡ 2 * i + 1 = omega arith in
-    map-at (rowWeight limit k) windows i (omega (arith, length-odds 1 16)) ∙ ap (rowWeight limit k) (getD-odds 1 16 i h ∙ e)
+numbers-at : (ss : List Size) (i : ℕ) → (getD (numbers ss) (2 * i) 0 ≡ getD ss i none .places) × (getD (numbers ss) (2 * i + 1) 0 ≡ getD ss i none .weight)
+unfolding numbers
+numbers-at [] i = (refl, refl)
+numbers-at (s ∷ ss) zero = (refl, refl)
+numbers-at (s ∷ ss) (suc i) =
+    let e : 2 * suc i ≡ suc (suc (2 * i)) = omega arith in
+    let f : 2 * suc i + 1 ≡ suc (suc (2 * i + 1)) = omega arith in
+    let r = numbers-at ss i in
+    (ap (λ (n : ℕ). getD (s .places ∷ s .weight ∷ numbers ss) n 0) e ∙ r .0, ap (λ (n : ℕ). getD (s .places ∷ s .weight ∷ numbers ss) n 0) f ∙ r .1)
+
+module _ (limit k : ℕ) where
+  -- there are thirty-two numbers, and those of the window 2 i + 1 are at 2 i and behind it
+  pub sizes-length : length (rowSizes limit k) ≡ 32
+  unfolding rowSizes
+  sizes-length = omega (arith, numbers-length (map (rowSize limit k) windows), length-map windows (rowSize limit k), length-odds 1 16)
+
+  pub sizes-at : (i : ℕ) → i < 16
+      → (getD (rowSizes limit k) (2 * i) 0 ≡ rowSize limit k (2 * i + 1) .places) × (getD (rowSizes limit k) (2 * i + 1) 0 ≡ rowSize limit k (2 * i + 1) .weight)
+  unfolding rowSizes
+  sizes-at i h =
+      let e : 1 + 2 * i ≡ 2 * i + 1 = omega arith in
+      let at = map-at (rowSize limit k) none windows i (omega (arith, length-odds 1 16)) ∙ ap (rowSize limit k) (getD-odds 1 16 i h ∙ e) in
+      let r = numbers-at (map (rowSize limit k) windows) i in
+      (r .0 ∙ ap (λ (s : Size). s .places) at, r .1 ∙ ap (λ (s : Size). s .weight) at)
 
 -- a list of n zeros filled from the front with the first i elements of w
 abbrev pub begun : List ℕ → ℕ → ℕ → List ℕ
@@ -55,3 +76,10 @@ pub begun-all : (w : List ℕ) (n : ℕ) → length w ≡ n → begun w n n ≡ 
 begun-all w n e =
     let none : n - n ≡ 0 = omega arith in
     rw (none, append-nil) (take-all n w (omega arith))
+
+-- both numbers of a size
+pub begun-size : (w : List ℕ) (n i x y : ℕ) → 2 * i + 1 < n → length w ≡ n → x ≡ getD w (2 * i) 0 → y ≡ getD w (2 * i + 1) 0
+    → set (set (begun w n (2 * i)) (2 * i) x) (2 * i + 1) y ≡ begun w n (2 * (i + 1))
+begun-size w n i x y h e f g =
+    let next : 2 * i + 1 + 1 ≡ 2 * (i + 1) = omega arith in
+    ap (λ (l : List ℕ). set l (2 * i + 1) y) (begun-more w n (2 * i) x (omega arith) e f) ∙ begun-more w n (2 * i + 1) y h e g ∙ ap (begun w n) next

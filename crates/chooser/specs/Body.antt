@@ -1,3 +1,3 @@
 -- What the private contracts of the code speak of.
-pub mod Weights
+pub mod Sizes
 pub mod Choice

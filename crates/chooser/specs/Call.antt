@@ -1,6 +1,7 @@
 -- What the call for the cheapest sheet answers and leaves in the buffer it is lent, for all input; and what it promises of the
--- sheet (demand 3).
+-- sheet (demand 3). And the same of the call for its plan.
 pub mod Demand
+pub mod Met
 use mathlib.Core.Path.{_≡_}
 use mathlib.Core.Bool.{_&&_, cond}
 use mathlib.Core.List.{List, [], _∷_}
@@ -14,13 +15,42 @@ use Rattle.sheet.specs.Digits.{columns}
 use Rattle.sheet.specs.Line.{plan}
 use Rattle.sheet.specs.Plan.{isLimit}
 use Rattle.sheet.specs.Spelling.{lines}
-use Rattle.written.specs.Written.{digits}
+use Rattle.written.specs.Written.{digits, writtenDoublings}
 use Rattle.writer.specs.declared.answer.Sheet.{Sheet}
 use Rattle.writer.specs.declared.answer.Sheet.the-variants.{BadScalar, BadWindow, NoRoom, BadLimit, Written}
 use Rattle.writer.specs.Call.{roomy, wrote, left}
+use Rattle.chooser.specs.declared.call.Choice.{Choice}
+use Rattle.chooser.specs.declared.call.Choice.the-variants as Choices
 use Rattle.chooser.specs.Cheapest.{cheapestPlan, First, cheapest}
 
--- the questions: 1 of both scalars; 4. is the limit at most 31? 3
+-- ── the plan ────────────────────────────────────────────────────────────────────────────────
+
+-- the number of the question missed, 0 where none is
+abbrev pub choiceNumber : Choice → ℕ
+choiceNumber Choices.BadScalar = 1
+choiceNumber Choices.BadLimit = 4
+choiceNumber (Choices.Is p) = 0
+
+-- the questions: 1 of both scalars; 4. is the limit at most 31?
+abbrev pub choiceQuestion : Limits → List ℕ → List ℕ → ℕ → ℕ
+choiceQuestion limits k l limit = missed ((1, sized limits k) ∷ (1, sized limits l) ∷ (4, isLimit limit) ∷ [])
+
+-- the answer: the first question missed, or the plan
+unfoldable pub choiceAnswer : Limits → List ℕ → List ℕ → ℕ → Choice
+choiceAnswer limits k l limit =
+    cond (sized limits k && sized limits l)
+    (cond (isLimit limit) (Choices.Is (cheapestPlan (scalar k) (scalar l) limit)) Choices.BadLimit)
+    Choices.BadScalar
+
+-- what the call promises: a plan comes before every other within the limit
+abbrev pub ChoicePromised : Choice → ℕ → ℕ → ℕ → Type 0
+ChoicePromised Choices.BadScalar k l limit = Unit {0}
+ChoicePromised Choices.BadLimit k l limit = Unit {0}
+ChoicePromised (Choices.Is p) k l limit = First k l limit p
+
+-- ── its sheet ───────────────────────────────────────────────────────────────────────────────
+
+-- the questions: 1 of both scalars; 4; 3
 abbrev pub cheapestQuestion : Limits → List ℕ → List ℕ → ℕ → ℕ → ℕ
 cheapestQuestion limits k l limit room = missed ((1, sized limits k) ∷ (1, sized limits l) ∷ (4, isLimit limit) ∷ (3, roomy limits room) ∷ [])
 
@@ -38,7 +68,7 @@ cheapestBuffer limits k l limit buffer =
 
 -- what demand 3 asks of a sheet s for k and l under a limit that is said to have a additions
 pub record Cheapest (s : List ℕ) (k l limit a : ℕ) : Type 0 where
-  -- its plan is the first in 01's order, and its digits are 01's of that plan
+  -- its plan comes before every other within the limit, and its digits are 01's of that plan
   pub planned : First k l limit (plan (heading (lines card s)))
   pub digits-are : columns (lines card s) ≡ digits (plan (heading (lines card s))) k l
   pub accepted : Accepted card s k l
@@ -46,6 +76,8 @@ pub record Cheapest (s : List ℕ) (k l limit a : ℕ) : Type 0 where
   -- a additions: its header states them, and its lines have them
   pub stated : heading (lines card s) .additions ≡ a
   pub counted : sheetAdditions card s ≡ a
+  -- and its header states the doublings by which the plan was compared
+  pub doubled : heading (lines card s) .doublings ≡ writtenDoublings (plan (heading (lines card s))) k l
   -- every accepted sheet for k and l within the limit, from anybody, has at least as many
   pub least : (t : List ℕ) → Accepted card t k l → sheetSlots card t ≤ limit → a ≤ sheetAdditions card t
 

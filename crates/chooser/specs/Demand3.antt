@@ -23,21 +23,27 @@ use Rattle.sheet.specs.Answer.{Accepted, heading, sheetSlots, sheetAdditions}
 use Rattle.sheet.specs.Digits.{columns}
 use Rattle.sheet.specs.Line.{plan}
 use Rattle.sheet.specs.Spelling.{lines}
-use Rattle.written.specs.Written.{digits}
-use Rattle.chooser.specs.Cheapest.{cheapestPlan, First, cheapest}
+use Rattle.written.specs.Written.{digits, writtenDoublings}
+use Rattle.chooser.specs.Cheapest.{cheapestPlan, Total, First, cheapest}
+use Rattle.chooser.specs.Cheapest.Least as Least
+use Rattle.chooser.specs.Cheapest.Order as Order
 use Rattle.chooser.specs.Cheapest.Sheet as Sheet
 
 -- its plan is the cheapest plan
 pub cheapest-plan : (k l limit : ℕ) → k < 2 ^ 528 → l < 2 ^ 528 → plan (heading (lines card (cheapest k l limit))) ≡ cheapestPlan k l limit
 cheapest-plan = Sheet.cheapest-plan
 
--- which is the first in 01's order of the plans within the limit
+-- which comes before every other plan within the limit
 pub plan-is-first : (k l limit : ℕ) → First k l limit (cheapestPlan k l limit)
-plan-is-first = Sheet.first-plan
+plan-is-first = Least.first-plan
 
--- and the only one that is
+-- and is the only one that does
 pub first-only : (k l limit : ℕ) (p : Plan) → First k l limit p → p ≡ cheapestPlan k l limit
-first-only = Sheet.first-only
+first-only = Least.first-only
+
+-- the order is a total one on the plans
+pub order-total : (k l : ℕ) → Total k l
+order-total = Order.order-total
 
 -- every sheet anybody could write that is accepted for k and l within the limit has at least as many additions
 pub cheapest-is-least : (k l limit : ℕ) → k < 2 ^ 528 → l < 2 ^ 528 → (s : List ℕ) → Accepted card s k l → sheetSlots card s ≤ limit
@@ -56,6 +62,11 @@ cheapest-within = Sheet.cheapest-within
 pub cheapest-counted : (k l limit : ℕ) → k < 2 ^ 528 → l < 2 ^ 528
     → heading (lines card (cheapest k l limit)) .additions ≡ sheetAdditions card (cheapest k l limit)
 cheapest-counted = Sheet.cheapest-counted
+
+-- and the doublings by which its plan was compared
+pub cheapest-doubled : (k l limit : ℕ) → k < 2 ^ 528 → l < 2 ^ 528
+    → heading (lines card (cheapest k l limit)) .doublings ≡ writtenDoublings (cheapestPlan k l limit) k l
+cheapest-doubled = Sheet.cheapest-doubled
 
 -- its digits are 01's row or joint form of the cheapest plan
 pub cheapest-digits : (k l limit : ℕ) → k < 2 ^ 528 → l < 2 ^ 528 → columns (lines card (cheapest k l limit)) ≡ digits (cheapestPlan k l limit) k l

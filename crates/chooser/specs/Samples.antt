@@ -19,13 +19,13 @@ use Rattle.sheet.specs.Plan.{odds}
 use Rattle.sheet.specs.Questions.{additions, doublings}
 use Rattle.sheet.specs.Sound.{moveLines, sheetLines}
 use Rattle.sheet.specs.Spelling.{lineFeed, join, spell, cut}
-use Rattle.written.specs.Written.{digits, addAll, movesOf, stepsOf, writtenLines, written, writtenAdditions}
+use Rattle.written.specs.Written.{digits, addAll, movesOf, stepsOf, writtenLines, written, writtenAdditions, writtenDoublings}
 use Rattle.chooser.specs.Cheapest.{interleaved, plans, within, key, cheapestPlan, cheapest}
 use Rattle.chooser.specs.Lexicographic.{before, least}
 
 -- the cheapest sheet, with every definition that it computes by
 unfoldable pub computed : ℕ → ℕ → ℕ → List ℕ
-unfolding Row.row Row.rowIn Row.digit Row.rest residue width bitLength bitLengthIn half Joint.joint Joint.jointIn Joint.column Joint.digit Joint.rest numeralIn numeral odds additions doublings moveLines sheetLines join spell cut paired digits addAll movesOf stepsOf writtenLines written writtenAdditions interleaved plans within key cheapestPlan cheapest before least
+unfolding Row.row Row.rowIn Row.digit Row.rest residue width bitLength bitLengthIn half Joint.joint Joint.jointIn Joint.column Joint.digit Joint.rest numeralIn numeral odds additions doublings moveLines sheetLines join spell cut paired digits addAll movesOf stepsOf writtenLines written writtenAdditions writtenDoublings interleaved plans within key cheapestPlan cheapest before least
 computed k l limit = cheapest k l limit
 
 -- a sample: the first line of the cheapest sheet for k and l under a limit
@@ -45,14 +45,18 @@ samples =
     -- windows 3, 3 are within three slots, the working double's place being one for both; with two slots J is left
     ∷ heads 0x5a 0x2d 3 "S,I,3,3,3,5,7,5a,2d"
     ∷ heads 0x5a 0x2d 2 "S,J,1,1,2,6,6,5a,2d"
-    -- then fewest slots: as many additions have windows 3, 1; J; windows 3, 3
-    ∷ heads 3 0 2 "S,I,1,1,0,1,2,3,0"
-    ∷ heads 3 3 2 "S,I,1,1,0,3,2,3,3"
+    -- then fewest doublings: windows 1, 1 have as many additions and need no slot; so has J, and needs no more slots; J itself
+    ∷ heads 3 0 2 "S,I,3,1,2,1,1,3,0"
+    ∷ heads 0x2d 0xb 2 "S,I,3,1,2,5,5,2d,b"
+    ∷ heads 6 0xb 2 "S,J,1,1,2,4,3,6,b"
+    -- then fewest slots: as many of both have windows 3, 1; J and windows 3, 3; windows 3, 3
+    ∷ heads 3 2 2 "S,I,1,1,0,2,2,3,2"
+    ∷ heads 3 3 3 "S,I,1,1,0,3,2,3,3"
     ∷ heads 0x2d 0x2d 3 "S,J,1,1,2,5,6,2d,2d"
-    -- then J before I: windows 3, 1 have as many additions and slots
-    ∷ heads 0x2d 0xb 2 "S,J,1,1,2,5,6,2d,b"
+    -- then J before I: windows 3, 1 have as many of all three
+    ∷ heads 0x5a 0x2b 2 "S,J,1,1,2,6,7,5a,2b"
     -- then smaller m1: so have windows 3, 1
-    ∷ heads 0x2d 0x66 2 "S,I,1,3,2,6,7,2d,66"
+    ∷ heads 0x12d 0x66 2 "S,I,1,3,2,7,9,12d,66"
     ∷ []
 
 -- the test of a sample

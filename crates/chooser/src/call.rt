@@ -3,7 +3,7 @@ ghost use lib.ListN.{length};
 ghost use Rattle.digits.specs.Limits.{card};
 ghost use Rattle.digits.specs.Scalar.{scalar};
 ghost use Rattle.chooser.specs.Body.Choice.{planAnswer, planBuffer};
-ghost use Rattle.chooser.specs.Call.{cheapestQuestion, cheapestAnswer, cheapestBuffer, Promised};
+ghost use Rattle.chooser.specs.Call.{choiceNumber, choiceQuestion, choiceAnswer, ChoicePromised, cheapestQuestion, cheapestAnswer, cheapestBuffer, Promised};
 ghost use Rattle.writer.specs.Call.{number};
 use sheet::Plan;
 use writer::Sheet;
@@ -19,6 +19,31 @@ fn sheet_of(plan: Plan, k: &[u8], l: &[u8], sheet: &mut [u8]) -> Sheet
     }
 }
 
+// What the call for the plan answers: the question missed, or the plan.
+pub enum Choice {
+    // Question 1: a scalar has 1 to 66 bytes.
+    BadScalar,
+    // Question 4: a limit of slots is at most 31.
+    BadLimit,
+    // The plan.
+    Is(Plan),
+}
+
+// The plan of the cheapest sheet for k and l that needs no more slots than the limit.
+pub fn cheapest_plan(k: &[u8], l: &[u8], limit: u32) -> Choice
+    ensures answer { λ r. ⌜ r ≡ choiceAnswer card (now (k .entry)) (now (l .entry)) limit ⌝ }
+    ensures promised { λ r. ⌜ ChoicePromised r (scalar (now (k .entry))) (scalar (now (l .entry))) limit ⌝ }
+    ensures question { λ r. ⌜ choiceNumber r ≡ choiceQuestion card (now (k .entry)) (now (l .entry)) limit ⌝ }
+{
+    if digits::are_scalars(k, l) {
+        if Plan::is_limit(limit) {
+            return Choice::Is(crate::choice::first_plan(k, l, limit));
+        }
+        return Choice::BadLimit;
+    }
+    Choice::BadScalar
+}
+
 // The cheapest sheet for k and l that needs no more slots than the limit.
 pub fn cheapest(k: &[u8], l: &[u8], limit: u32, sheet: &mut [u8]) -> Sheet
     ensures answer { λ r. ⌜ r ≡ cheapestAnswer card (now (k .entry)) (now (l .entry)) limit (length (now (sheet .entry))) ⌝ }
@@ -26,11 +51,9 @@ pub fn cheapest(k: &[u8], l: &[u8], limit: u32, sheet: &mut [u8]) -> Sheet
     ensures promised { λ r. ⌜ Promised r (now (sheet .exit)) (scalar (now (k .entry))) (scalar (now (l .entry))) limit ⌝ }
     ensures question { λ r. ⌜ number r ≡ cheapestQuestion card (now (k .entry)) (now (l .entry)) limit (length (now (sheet .entry))) ⌝ }
 {
-    if digits::are_scalars(k, l) {
-        if Plan::is_limit(limit) {
-            return sheet_of(crate::choice::cheapest_plan(k, l, limit), k, l, sheet);
-        }
-        return Sheet::BadLimit;
+    match cheapest_plan(k, l, limit) {
+        Choice::BadScalar => Sheet::BadScalar,
+        Choice::BadLimit => Sheet::BadLimit,
+        Choice::Is(plan) => sheet_of(plan, k, l, sheet),
     }
-    Sheet::BadScalar
 }

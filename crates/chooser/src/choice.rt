@@ -1,19 +1,23 @@
 ghost use mathlib.Core.Path.{_≡_};
 ghost use mathlib.Core.Bool.{cond};
-ghost use Prim.Native.Nat.{_-_, _/_, _<_, _≤_};
+ghost use Prim.Native.Nat.{_-_, _*_, _/_, _<_, _≤_};
 ghost use lib.ListN.{length, getD};
 ghost use Rattle.digits.specs.Scalar.{scalar};
 ghost use Rattle.sheet.specs.declared.Plan.{Plan};
 ghost use Rattle.sheet.specs.Plan.{isWithin};
 ghost use Rattle.written.specs.Written.{first};
 ghost use Rattle.chooser.specs.Cheapest.{cheapestPlan, plans, rank, within};
-ghost use Rattle.chooser.specs.Body.Choice.{keyOf, planWeight, costKey, Enough};
+ghost use Rattle.chooser.specs.Body.Choice.{planWeight, planPlaces, costKey, Enough};
+ghost use Rattle.chooser.specs.Candidate.{costWith, keyOf, either};
+ghost use Rattle.chooser.specs.Candidate.Turns.{Stands};
 ghost use Rattle.chooser.specs.Lexicographic.{before, better, least};
+use crate::sizes::Size;
 use sheet::Plan;
 
 // What decides between plans, in order.
 pub struct Cost {
     pub additions: u64,
+    pub doublings: u64,
     pub slots: u32,
     pub rank: u32,
     pub first: u32,
@@ -26,12 +30,28 @@ pub struct Candidate {
 }
 
 impl Cost {
+    // The cost of a plan with so many additions and doublings.
+    pub fn of(plan: Plan, additions: u64, doublings: u64) -> Cost
+        ensures { λ r. ⌜ r ≡ costWith additions doublings plan ⌝ }
+    {
+        Cost {
+            additions,
+            doublings,
+            slots: plan.slots(),
+            rank: rank_of(plan),
+            first: first_of(plan),
+        }
+    }
+
     // Whether this comes before the other.
     fn comes_before(self, other: Cost) -> bool
         ensures { λ r. ⌜ r ≡ before (keyOf self) (keyOf other) ⌝ }
     {
         if self.additions != other.additions {
             return self.additions < other.additions;
+        }
+        if self.doublings != other.doublings {
+            return self.doublings < other.doublings;
         }
         if self.slots != other.slots {
             return self.slots < other.slots;
@@ -40,6 +60,19 @@ impl Cost {
             return self.rank < other.rank;
         }
         self.first < other.first
+    }
+}
+
+impl Candidate {
+    // It, or a plan with its cost where this comes before.
+    pub fn or(self, plan: Plan, cost: Cost) -> Candidate
+        ensures { λ r. ⌜ r ≡ either self plan cost ⌝ }
+    {
+        let least = self.cost;
+        if cost.comes_before(least) {
+            return Candidate { plan, cost };
+        }
+        self
     }
 }
 
@@ -53,27 +86,50 @@ fn less_one(n: u64) -> u64
     n - 1
 }
 
-// The weight for the window m, of those for 1, 3, 5 and so on.
-fn weight_for(weights: &[u32], m: u32) -> u64
-    ensures { λ r. ⌜ r ≡ getD (now (weights .entry)) ((m - 1) / 2) 0 ⌝ }
+// The number at a place, and 0 past the end.
+fn number_at(numbers: &[u32], at: usize) -> u32
+    ensures { λ r. ⌜ r ≡ getD (now (numbers .entry)) at 0 ⌝ }
+{
+    if at < numbers.len() {
+        return numbers[at];
+    }
+    0
+}
+
+// Where the size for the window m begins, of those for 1, 3, 5 and so on.
+fn size_at(m: u32) -> usize
+    ensures { λ r. ⌜ r ≡ 2 * ((m - 1) / 2) ⌝ }
     ensures { λ r. ⌜ r < 4294967296 ⌝ }
 {
-    let at = (less_one(m as u64) / 2) as usize;
-    if at < weights.len() {
-        weights[at] as u64
-    } else {
-        0
-    }
+    (2 * (less_one(m as u64) / 2)) as usize
 }
 
 // What a plan counts: joint columns, or the digits of both rows.
-fn plan_weight(plan: Plan, k: &[u32], l: &[u32], joint: u32) -> u64
+fn plan_weight(plan: Plan, k: &[u32], l: &[u32], joint: Size) -> u64
     ensures { λ r. ⌜ r ≡ planWeight plan (now (k .entry)) (now (l .entry)) joint ⌝ }
     ensures { λ r. ⌜ r < 8589934592 ⌝ }
 {
     match plan {
-        Plan::J => joint as u64,
-        Plan::I(m1, m2) => weight_for(k, m1) + weight_for(l, m2),
+        Plan::J => joint.weight as u64,
+        Plan::I(m1, m2) => {
+            let of_k = number_at(k, size_at(m1) + 1);
+            let of_l = number_at(l, size_at(m2) + 1);
+            of_k as u64 + of_l as u64
+        }
+    }
+}
+
+// The places of its digits: those of the joint columns, or of the longer row.
+fn plan_places(plan: Plan, k: &[u32], l: &[u32], joint: Size) -> u32
+    ensures { λ r. ⌜ r ≡ planPlaces plan (now (k .entry)) (now (l .entry)) joint ⌝ }
+{
+    match plan {
+        Plan::J => joint.places,
+        Plan::I(m1, m2) => {
+            let of_k = number_at(k, size_at(m1));
+            let of_l = number_at(l, size_at(m2));
+            if of_k < of_l { of_l } else { of_k }
+        }
     }
 }
 
@@ -97,18 +153,13 @@ fn first_of(plan: Plan) -> u32
     }
 }
 
-// The cost of a plan, from the weights of the scalars.
-fn cost_of(plan: Plan, k: &[u32], l: &[u32], joint: u32) -> Cost
+// The cost of a plan, from the sizes of the scalars' rows.
+fn cost_of(plan: Plan, k: &[u32], l: &[u32], joint: Size) -> Cost
     ensures { λ r. ⌜ keyOf r ≡ costKey (now (k .entry)) (now (l .entry)) joint plan ⌝ }
 {
-    let table = plan.table_additions();
-    let weight = plan_weight(plan, k, l, joint);
-    Cost {
-        additions: table as u64 + less_one(weight),
-        slots: plan.slots(),
-        rank: rank_of(plan),
-        first: first_of(plan),
-    }
+    let additions = plan.table_additions() as u64 + less_one(plan_weight(plan, k, l, joint));
+    let doublings = plan.table_doublings() as u64 + less_one(plan_places(plan, k, l, joint) as u64);
+    Cost::of(plan, additions, doublings)
 }
 
 // The n-th plan: J, and then the plans I by m1 and by m2.
@@ -138,23 +189,26 @@ fn plans_to_try(limit: u32) -> u32
 }
 
 // The better of the best plan so far and the next one, which may need more slots than the limit.
-fn better_of(best: Candidate, plan: Plan, k: &[u32], l: &[u32], joint: u32, limit: u32) -> Candidate
-    requires { ⌜ keyOf (best .cost) ≡ costKey (now k) (now l) joint (best .plan) ⌝ }
+fn better_of(
+    best: Candidate,
+    plan: Plan,
+    k: &[u32],
+    l: &[u32],
+    joint: Size,
+    limit: u32,
+) -> Candidate
+    requires { ⌜ Stands (costKey (now k) (now l) joint) best ⌝ }
     ensures { λ r. ⌜ r .plan ≡ cond (isWithin plan limit) (better (costKey (now (k .entry)) (now (l .entry)) joint) (best .plan) plan) (best .plan) ⌝ }
-    ensures { λ r. ⌜ keyOf (r .cost) ≡ costKey (now (k .entry)) (now (l .entry)) joint (r .plan) ⌝ }
+    ensures { λ r. ⌜ Stands (costKey (now (k .entry)) (now (l .entry)) joint) r ⌝ }
 {
     if plan.is_within(limit) {
-        let cost = cost_of(plan, k, l, joint);
-        let least = best.cost;
-        if cost.comes_before(least) {
-            return Candidate { plan, cost };
-        }
+        return best.or(plan, cost_of(plan, k, l, joint));
     }
     best
 }
 
-// The first of the least plans within the limit, by the weights of the scalars.
-fn least_plan(k: &[u32], l: &[u32], joint: u32, limit: u32) -> Plan
+// The first of the least plans within the limit, by the sizes of the scalars' rows.
+fn least_plan(k: &[u32], l: &[u32], joint: Size, limit: u32) -> Plan
     ensures { λ r. ⌜ r ≡ least (costKey (now (k .entry)) (now (l .entry)) joint) (Plan.I 1 1) (within limit plans) ⌝ }
 {
     let plan = Plan::I(1, 1);
@@ -170,13 +224,13 @@ fn least_plan(k: &[u32], l: &[u32], joint: u32, limit: u32) -> Plan
     best.plan
 }
 
-// The cheapest plan for two scalars within the limit.
-pub fn cheapest_plan(k: &[u8], l: &[u8], limit: u32) -> Plan
+// The first plan within the limit for two scalars.
+pub fn first_plan(k: &[u8], l: &[u8], limit: u32) -> Plan
     requires { ⌜ (1 ≤ length (now k)) × ((length (now k) ≤ 66) × ((1 ≤ length (now l)) × (length (now l) ≤ 66))) ⌝ }
     ensures { λ r. ⌜ r ≡ cheapestPlan (scalar (now (k .entry))) (scalar (now (l .entry))) limit ⌝ }
 {
-    let k_weights = crate::weights::row_weights(k, limit);
-    let l_weights = crate::weights::row_weights(l, limit);
-    let joint = crate::weights::joint_weight_within(k, l, limit);
-    least_plan(&k_weights, &l_weights, joint, limit)
+    let k_sizes = crate::sizes::row_sizes(k, limit);
+    let l_sizes = crate::sizes::row_sizes(l, limit);
+    let joint = crate::sizes::joint_size_within(k, l, limit);
+    least_plan(&k_sizes, &l_sizes, joint, limit)
 }

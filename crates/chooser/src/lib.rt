@@ -1,6 +1,10 @@
-// The cheapest sheet under a slot limit.
+// The cheapest sheet under a slot limit, and its plan.
 mod call;
 mod choice;
-mod weights;
+mod sizes;
 
+pub use call::Choice;
 pub use call::cheapest;
+pub use call::cheapest_plan;
+pub use choice::Candidate;
+pub use choice::Cost;

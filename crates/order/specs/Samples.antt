@@ -18,7 +18,7 @@ use Rattle.sheet.specs.Numeral.{figures, followed, number}
 use Rattle.sheet.specs.Spelling.{lineFeed, cut}
 use Rattle.recode.specs.Call.{rowQuestion, jointQuestion}
 use Rattle.writer.specs.Call.{jQuestion, iQuestion}
-use Rattle.chooser.specs.Call.{cheapestQuestion}
+use Rattle.chooser.specs.Call.{choiceQuestion, cheapestQuestion}
 use Rattle.chooser.specs.Samples.{computed}
 use Rattle.order.specs.Order.{lineOf, readFields, readOrder, printed}
 
@@ -77,6 +77,8 @@ samples =
     ∷ joint 1 2 (+ 1 ∷ + 0 ∷ []) (+ 0 ∷ + 1 ∷ [])
     ∷ heads (ascii "3,0,1\n") (ascii "S,I,1,1,0,1,2,3,0")
     ∷ prints (ascii "7,2,0\n") (ascii "S,I,1,1,0,2,3,7,2\nL,1,0\nD\nD\nA,0,1\nD\nA,-1,0\nE\n")
+    -- doublings before slots
+    ∷ heads (ascii "3,0,2\n") (ascii "S,I,3,1,2,1,1,3,0")
     -- the highest limit, and one more
     ∷ heads (ascii "7,2,31\n") (ascii "S,I,1,1,0,2,3,7,2")
     ∷ prints (ascii "7,2,32\n") (ascii "N,4\n")
@@ -102,6 +104,10 @@ samples =
     ∷ answers (cheapestQuestion card (bytes 1) (bytes 1) 32 0) 4
     ∷ answers (cheapestQuestion card (bytes 1) (bytes 1) 31 16383) 3
     ∷ answers (cheapestQuestion card (bytes 1) (bytes 1) 31 16384) 0
+    -- its plan: 1 of the second scalar and 4 missed, 4 alone, none
+    ∷ answers (choiceQuestion card (bytes 1) (bytes 67) 32) 1
+    ∷ answers (choiceQuestion card (bytes 1) (bytes 1) 32) 4
+    ∷ answers (choiceQuestion card (bytes 1) (bytes 1) 31) 0
     ∷ []
 
 abbrev sameRow : (ds es : List ℤ) → Test (ds ≡ es)

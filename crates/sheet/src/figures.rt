@@ -1,8 +1,8 @@
 ghost use mathlib.Core.Path.{_≡_};
 ghost use mathlib.Core.Bool.{true};
-ghost use Prim.Native.Nat.{_≤_, _<_, min};
+ghost use Prim.Native.Nat.{_%_, _≤_, _<_, min};
 ghost use lib.ListN.{length};
-ghost use Rattle.sheet.specs.Numeral.{worth, padded, figures, followed, number};
+ghost use Rattle.sheet.specs.Numeral.{figure, worth, padded, figures, followed, number};
 ghost use Rattle.sheet.specs.Spelling.Field.{isNumeral, decimalOf};
 
 // A decimal that a field spells, or none.
@@ -24,6 +24,18 @@ pub fn worth_of(byte: u8) -> u32
         byte as u32 - 87
     } else {
         decimal
+    }
+}
+
+// The byte of the last hexadecimal figure of a number.
+pub fn figure_of(n: u32) -> u8
+    ensures { λ r. ⌜ r ≡ figure (n % 16) ⌝ }
+{
+    let low = n % 16;
+    if low < 10 {
+        (48 + low) as u8
+    } else {
+        (87 + low) as u8
     }
 }
 

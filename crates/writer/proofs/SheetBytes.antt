@@ -16,13 +16,12 @@ use Rattle.sheet.specs.declared.Plan.the-variants.{J, I}
 use Rattle.sheet.specs.Line.{Header, Line, header, table, end}
 use Rattle.sheet.specs.Numeral.{numeral}
 use Rattle.sheet.specs.Plan.{Point, slots, tables, tableAdditions, tableDoublings, largest}
-use Rattle.sheet.specs.Questions.{doublings}
 use Rattle.sheet.specs.Sound.{Steps, stepLines, sheetLines}
 use Rattle.sheet.specs.Spelling.{comma, lineFeed, kind, join, spell}
 use Rattle.written.specs.Promise.{written-fits, written-cost, written-few, written-places, written-header, written-doublings}
 use Rattle.written.specs.Written.Lengths.{spell-append}
 use Rattle.written.specs.Written.Columns.{digits-top}
-use Rattle.written.specs.Written.{digits, kindOf, first, second, heading, stepsDown, stepsOf, writtenLines, writtenAdditions, written}
+use Rattle.written.specs.Written.{digits, kindOf, first, second, heading, stepsDown, stepsOf, writtenAdditions, writtenDoublings, written}
 use Rattle.writer.specs.Body.Parts.{columnAt, columnsDown, lettersOf, decimalsOf, scalarsOf, headerBytes, Holds, Bounded, Ready}
 
 -- ── the header ──────────────────────────────────────────────────────────────────────────────
@@ -129,16 +128,16 @@ module _ {plan : Plan} {k l : ℕ} {p q : List ℕ} {places counted : ℕ} {out 
   pub additions-are : (t r : ℕ) → t ≡ tableAdditions plan → r ≡ counted - 1 → t + r ≡ writtenAdditions plan k l
   additions-are t r e f = ap₂ (λ (x y : ℕ). x + y) e f ∙ cost
 
-  pub doublings-are : (u r : ℕ) → u ≡ tableDoublings plan → r ≡ places - 1 → u + r ≡ doublings (writtenLines plan k l)
+  pub doublings-are : (u r : ℕ) → u ≡ tableDoublings plan → r ≡ places - 1 → u + r ≡ writtenDoublings plan k l
   doublings-are u r e f = ap₂ (λ (x y : ℕ). x + y) e (f ∙ ap (λ (n : ℕ). n - 1) (g .long)) ∙ sym (written-doublings plan k l (g .valid))
 
   -- the whole sheet
-  pub sheet-parts : (a d : ℕ) → a ≡ writtenAdditions plan k l → d ≡ doublings (writtenLines plan k l)
+  pub sheet-parts : (a d : ℕ) → a ≡ writtenAdditions plan k l → d ≡ writtenDoublings plan k l
       → written plan k l ≡ partsOf plan a d k l p q places
   unfolding written stepsOf
   sheet-parts a d e f =
       ap spell (written-header plan k l)
-      ∙ sheet-bytes (heading plan (writtenAdditions plan k l) (doublings (writtenLines plan k l)) k l) (tables plan) (stepsDown plan (reverse (digits plan k l)))
+      ∙ sheet-bytes (heading plan (writtenAdditions plan k l) (writtenDoublings plan k l) k l) (tables plan) (stepsDown plan (reverse (digits plan k l)))
       ∙ sym (ap₂ (λ (x : Header) (cs : List Column). headerBytes x ++ (spell (map table (tables plan)) ++ (spell (stepLines (stepsDown plan cs)) ++ (69 ∷ lineFeed ∷ [])))) (ap₂ (λ (x y : ℕ). heading plan x y k l) e f) all-below)
 
   pub fits-buffer : length (written plan k l) ≤ length out

@@ -7,7 +7,7 @@ ghost use Rattle.writer.specs.Body.Parts.{Put, Room, field, lettersOf, d
 use sheet::Plan;
 
 // The letter of a plan.
-fn letter_of(plan: Plan) -> u8
+pub fn letter_of(plan: Plan) -> u8
     ensures { λ r. ⌜ r ∷ [] ≡ Spelling.kind (kindOf plan) ⌝ }
 {
     match plan {

@@ -9,5 +9,6 @@ mod tables;
 mod write;
 
 pub use answer::Sheet;
+pub use header::letter_of;
 pub use plans::plan_i;
 pub use plans::plan_j;

@@ -18,23 +18,11 @@ pub fn put_byte(out: &mut [u8], at: usize, byte: u8) -> usize
     at + 1
 }
 
-// The byte of a figure: 0 to 9, then a to f.
-fn figure(n: u32) -> u8
-    requires { ⌜ n < 16 ⌝ }
-    ensures { λ r. ⌜ r ≡ figure n ⌝ }
-{
-    if n < 10 {
-        (48 + n) as u8
-    } else {
-        (87 + n) as u8
-    }
-}
-
 pub fn put_figure(out: &mut [u8], at: usize, n: u32) -> usize
     requires { ⌜ (n < 16) × Room (now out) at (figure n ∷ []) ⌝ }
     ensures { λ r. ⌜ Put (now (out .entry)) (now (out .exit)) at r (figure n ∷ []) ⌝ }
 {
-    put_byte(out, at, figure(n))
+    put_byte(out, at, sheet::figures::figure_of(n))
 }
 
 // The figures of n with no leading zero.

@@ -9,15 +9,14 @@ use Rattle.sheet.specs.Answer.{Accepted, sheetSlots, sheetAdditions}
 use Rattle.sheet.specs.Digits.{columns, weight}
 use Rattle.sheet.specs.Line.{plan}
 use Rattle.sheet.specs.Plan.{slots, tableAdditions, tableDoublings}
-use Rattle.sheet.specs.Questions.{doublings}
 use Rattle.sheet.specs.Spelling.{lines}
-use Rattle.written.specs.Written.{digits, linesWith, writtenLines, writtenAdditions, written}
+use Rattle.written.specs.Written.{digits, linesWith, writtenLines, writtenAdditions, writtenDoublings, written}
 use Rattle.written.specs.Written.Accepted as Within
 use Rattle.written.specs.Written.Accepted.{card-enough}
 use Rattle.written.specs.Valid.{Valid}
 
 -- its header states the counts of its lines
-pub written-header : (p : Plan) (k l : ℕ) → writtenLines p k l ≡ linesWith p (writtenAdditions p k l) (doublings (writtenLines p k l)) k l
+pub written-header : (p : Plan) (k l : ℕ) → writtenLines p k l ≡ linesWith p (writtenAdditions p k l) (writtenDoublings p k l) k l
 written-header = Within.written-header
 
 -- its columns are the plan's digits of k and l
@@ -25,7 +24,7 @@ pub written-columns : (p : Plan) (k l : ℕ) → Valid p → columns (writtenLin
 written-columns = Within.written-columns
 
 -- its doublings: those of the table, and one for each place below the top
-pub written-doublings : (p : Plan) (k l : ℕ) → Valid p → doublings (writtenLines p k l) ≡ tableDoublings p + (length (digits p k l) - 1)
+pub written-doublings : (p : Plan) (k l : ℕ) → Valid p → writtenDoublings p k l ≡ tableDoublings p + (length (digits p k l) - 1)
 written-doublings = Within.written-doublings
 
 -- every written sheet is accepted for its scalars
@@ -51,6 +50,11 @@ written-slots p k l v h g = Within.slots-within p k l v card 528 card-enough h g
 -- its additions are those of the written lines
 pub written-counted : (p : Plan) (k l : ℕ) → Valid p → k < 2 ^ 528 → l < 2 ^ 528 → sheetAdditions card (written p k l) ≡ writtenAdditions p k l
 written-counted p k l v h g = Within.additions-within p k l v card 528 card-enough h g
+
+-- its header states its doublings
+pub written-doubled : (p : Plan) (k l : ℕ) → Valid p → k < 2 ^ 528 → l < 2 ^ 528
+    → Answer.heading (lines card (written p k l)) .doublings ≡ writtenDoublings p k l
+written-doubled p k l v h g = Within.doubled-within p k l v card 528 card-enough h g
 
 -- its additions: those of the table, and one for each digit that the plan counts but the first
 pub written-cost : (p : Plan) (k l : ℕ) → Valid p → k < 2 ^ 528 → l < 2 ^ 528

@@ -97,6 +97,10 @@ writtenLines p k l = linesWith p (additions (linesWith p 0 0 k l)) (doublings (l
 unfoldable pub writtenAdditions : Plan → ℕ → ℕ → ℕ
 writtenAdditions p k l = additions (writtenLines p k l)
 
+-- its doublings: the D lines, and the T lines of 2P and 2Q
+unfoldable pub writtenDoublings : Plan → ℕ → ℕ → ℕ
+writtenDoublings p k l = doublings (writtenLines p k l)
+
 -- the written sheet
 unfoldable pub written : Plan → ℕ → ℕ → List ℕ
 written p k l = spell (writtenLines p k l)

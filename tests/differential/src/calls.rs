@@ -2,7 +2,7 @@
 //! back.
 
 use crate::answer::Answer;
-use crate::cheapest::Weights;
+use crate::cheapest::Forms;
 use crate::plan::{Plan, MOST_SLOTS};
 use crate::reader::{self, LONGEST_SHEET};
 use crate::scalars::{self, MOST_BYTES};
@@ -80,8 +80,8 @@ impl Call {
                 sheet(Plan::Interleaved { m1: *m1 as u8, m2: *m2 as u8 }, k, l)
             }
             Call::Cheapest { k, l, limit, .. } => {
-                let weights = Weights::of(scalars::value(k), scalars::value(l));
-                Answer::sheet(&weights.cheapest_sheet(*limit as usize))
+                let forms = Forms::of(scalars::value(k), scalars::value(l));
+                Answer::sheet(&forms.cheapest_sheet(*limit as usize))
             }
             Call::Read { sheet } => match reader::read(sheet) {
                 Ok(()) => Answer::Accepted,

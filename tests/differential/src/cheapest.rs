@@ -5,48 +5,72 @@ use crate::plan::Plan;
 use crate::sheet::Sheet;
 use crate::{joint, row};
 
-/// The weights of all forms of one pair of scalars.
-pub struct Weights {
-    k: Big,
-    l: Big,
-    k_rows: Vec<usize>,
-    l_rows: Vec<usize>,
-    joint: usize,
+/// The length and the weight of a row or a joint form, or of two rows side by side.
+#[derive(Clone, Copy)]
+struct Form {
+    length: usize,
+    weight: usize,
 }
 
-impl Weights {
-    pub fn of(k: Big, l: Big) -> Weights {
-        let row_weights =
-            |scalar| row::windows().map(|m| row::weight(&row::recode(scalar, m))).collect();
-        let (k_rows, l_rows) = (row_weights(k), row_weights(l));
-        Weights { k, l, k_rows, l_rows, joint: joint::weight(&joint::recode(k, l)) }
+/// All forms of one pair of scalars.
+pub struct Forms {
+    k: Big,
+    l: Big,
+    k_rows: Vec<Form>,
+    l_rows: Vec<Form>,
+    joint: Form,
+}
+
+impl Forms {
+    pub fn of(k: Big, l: Big) -> Forms {
+        let columns = joint::recode(k, l);
+        let joint = Form { length: columns.len(), weight: joint::weight(&columns) };
+        Forms { k, l, k_rows: rows(k), l_rows: rows(l), joint }
     }
 
     /// The additions of the plan's sheet.
     pub fn additions(&self, plan: Plan) -> usize {
-        let weight = match plan {
-            Plan::Joint => self.joint,
-            Plan::Interleaved { m1, m2 } => {
-                self.k_rows[usize::from(m1 / 2)] + self.l_rows[usize::from(m2 / 2)]
-            }
-        };
-        additions(plan, weight)
+        additions(plan, self.form(plan).weight)
     }
 
-    /// The plan of the cheapest sheet: fewest additions; then fewest slots; then J before I; then
-    /// smaller m1.
+    /// The doublings of the plan's sheet: the table's, and one for each place below the top one.
+    pub fn doublings(&self, plan: Plan) -> usize {
+        plan.table_doublings() + self.form(plan).length.saturating_sub(1)
+    }
+
+    /// The plan of the cheapest sheet: fewest additions; then fewest doublings; then fewest slots;
+    /// then J before I; then smaller m1.
     pub fn cheapest(&self, limit: usize) -> Plan {
         let order = |plan: &Plan| {
-            (self.additions(*plan), plan.slots(), *plan != Plan::Joint, plan.windows().0)
+            let (additions, doublings) = (self.additions(*plan), self.doublings(*plan));
+            (additions, doublings, plan.slots(), *plan != Plan::Joint, plan.windows().0)
         };
-        let within_limit = Plan::all().filter(|plan| plan.slots() <= limit);
-        within_limit.min_by_key(order).expect("windows 1, 1 need no slot")
+        Plan::within(limit).min_by_key(order).expect("windows 1, 1 need no slot")
     }
 
     /// The cheapest sheet.
     pub fn cheapest_sheet(&self, limit: usize) -> Sheet {
         Sheet::of_plan(self.cheapest(limit), self.k, self.l)
     }
+
+    /// The form that the plan's steps are taken from.
+    fn form(&self, plan: Plan) -> Form {
+        match plan {
+            Plan::Joint => self.joint,
+            Plan::Interleaved { m1, m2 } => {
+                let k_row = self.k_rows[usize::from(m1 / 2)];
+                let l_row = self.l_rows[usize::from(m2 / 2)];
+                let length = k_row.length.max(l_row.length);
+                Form { length, weight: k_row.weight + l_row.weight }
+            }
+        }
+    }
+}
+
+/// The scalar's rows for all windows.
+fn rows(scalar: Big) -> Vec<Form> {
+    let form = |digits: Vec<i8>| Form { length: digits.len(), weight: row::weight(&digits) };
+    row::windows().map(|m| form(row::recode(scalar, m))).collect()
 }
 
 /// The additions of a sheet of the plan with this many steps: the table's, and every step but the
@@ -63,37 +87,42 @@ mod tests {
     use crate::scalars;
 
     #[test]
-    fn additions_are_those_counted_on_the_sheet() {
+    fn additions_and_doublings_are_those_counted_on_the_sheet() {
         let mut random = Random::new(6);
-        for _ in 0..10 {
-            let (k, l) = scalars::random_pair(&mut random);
+        let mut pairs: Vec<_> = (0..10).map(|_| scalars::random_pair(&mut random)).collect();
+        pairs.extend([(vec![0], vec![0]), (vec![0], vec![3]), (vec![255; 66], vec![255; 66])]);
+        for (k, l) in pairs {
             let (k, l) = (Big::from_bytes(&k), Big::from_bytes(&l));
-            let weights = Weights::of(k, l);
+            let forms = Forms::of(k, l);
             for plan in Plan::all() {
-                assert_eq!(weights.additions(plan), Sheet::of_plan(plan, k, l).additions());
+                let sheet = Sheet::of_plan(plan, k, l);
+                assert_eq!(forms.additions(plan), sheet.additions());
+                assert_eq!(forms.doublings(plan), sheet.doublings());
             }
         }
     }
 
     #[test]
-    fn ties_go_to_fewer_slots_then_to_j_then_to_smaller_m1() {
+    fn ties_go_to_fewer_doublings_then_to_fewer_slots_then_to_j_then_to_smaller_m1() {
         for k in 0..40 {
             for l in 0..40 {
-                let weights = Weights::of(Big::from(k), Big::from(l));
+                let forms = Forms::of(Big::from(k), Big::from(l));
                 for limit in 0..=MOST_SLOTS as usize {
-                    let best = weights.cheapest(limit);
-                    let mut within_limit = Plan::all().filter(|plan| plan.slots() <= limit);
+                    let best = forms.cheapest(limit);
                     assert!(best.slots() <= limit);
-                    assert!(!within_limit.any(|plan| comes_before(&weights, plan, best)));
+                    assert!(!Plan::within(limit).any(|plan| comes_before(&forms, plan, best)));
                 }
             }
         }
     }
 
     /// The order of the plans, spelled out.
-    fn comes_before(weights: &Weights, plan: Plan, other: Plan) -> bool {
-        if weights.additions(plan) != weights.additions(other) {
-            return weights.additions(plan) < weights.additions(other);
+    fn comes_before(forms: &Forms, plan: Plan, other: Plan) -> bool {
+        if forms.additions(plan) != forms.additions(other) {
+            return forms.additions(plan) < forms.additions(other);
+        }
+        if forms.doublings(plan) != forms.doublings(other) {
+            return forms.doublings(plan) < forms.doublings(other);
         }
         if plan.slots() != other.slots() {
             return plan.slots() < other.slots();

@@ -165,7 +165,7 @@ fn plan_refusals() -> Vec<(Call, Answer)> {
 
 fn cheapest_sheets() -> Vec<(Call, Answer)> {
     let cheapest = |limit, room| Call::Cheapest { k: vec![7], l: vec![2], limit, room };
-    let forty_five = |limit| Call::Cheapest { k: vec![45], l: vec![0], limit, room: 16_384 };
+    let order = |k, l, limit| Call::Cheapest { k: vec![k], l: vec![l], limit, room: 16_384 };
     vec![
         (cheapest(30, 16_384), sheet(SEVEN_AND_TWO, 2)),
         (cheapest(31, 16_384), sheet(SEVEN_AND_TWO, 2)),
@@ -173,10 +173,17 @@ fn cheapest_sheets() -> Vec<(Call, Answer)> {
         (cheapest(31, 16_383), refused(3)),
         (cheapest(32, 16_383), refused(4)),
         // Windows 3, 1 need two slots: one for 3P, one for 2P.
-        (forty_five(1), sheet(FORTY_FIVE_BY_WINDOW_1, 3)),
-        (forty_five(2), sheet(FORTY_FIVE_BY_WINDOW_3, 2)),
+        (order(45, 0, 1), sheet(FORTY_FIVE_BY_WINDOW_1, 3)),
+        (order(45, 0, 2), sheet(FORTY_FIVE_BY_WINDOW_3, 2)),
+        // Of equal additions fewer doublings decide, whatever slots they take.
+        (order(3, 0, 2), sheet("S,I,3,1,2,1,1,3,0\nT,2,0\nT,3,0\nL,3,0\nE\n", 1)),
+        (order(6, 11, 2), sheet(SIX_AND_ELEVEN, 4)),
+        // Of equal doublings too fewer slots do.
+        (order(3, 2, 2), sheet("S,I,1,1,0,2,2,3,2\nL,1,0\nD\nA,0,1\nD\nA,-1,0\nE\n", 2)),
     ]
 }
+
+const SIX_AND_ELEVEN: &str = "S,J,1,1,2,4,3,6,b\nT,1,1\nT,1,-1\nL,1,1\nD\nD\nA,-1,1\nD\nA,0,1\nE\n";
 
 const FORTY_FIVE_BY_WINDOW_1: &str =
     "S,I,1,1,0,3,6,2d,0\nL,1,0\nD\nD\nA,-1,0\nD\nD\nA,-1,0\nD\nD\nA,1,0\nE\n";

@@ -6,6 +6,7 @@ pub mod big;
 pub mod calls;
 pub mod card;
 pub mod carry_stops;
+pub mod changed_orders;
 pub mod cheapest;
 pub mod codes;
 pub mod damage;

@@ -51,6 +51,7 @@ fn compare_everything(judge: &mut Judge, seed: u64) {
     section(judge, "joint forms", |judge| runs::joint_forms::run(judge, random));
     section(judge, "sheets of plans", |judge| runs::plans::run(judge, random));
     section(judge, "cheapest sheets", |judge| runs::cheapest::run(judge, random));
+    section(judge, "changed orders", runs::changed_orders::run);
     section(judge, "small scalars", runs::small::run);
     section(judge, "reads", |judge| {
         for (number, count) in runs::reads::run(judge, random).by_number() {

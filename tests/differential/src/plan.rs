@@ -2,6 +2,7 @@
 
 use crate::joint::Pair;
 use crate::row;
+use std::fmt;
 
 /// The highest limit of slots: what the widest windows need.
 pub const MOST_SLOTS: u32 = 31;
@@ -20,6 +21,11 @@ impl Plan {
         let interleaved = row::windows()
             .flat_map(|m1| row::windows().map(move |m2| Plan::Interleaved { m1, m2 }));
         std::iter::once(Plan::Joint).chain(interleaved)
+    }
+
+    /// The plans that need no more slots than the limit.
+    pub fn within(limit: usize) -> impl Iterator<Item = Plan> {
+        Plan::all().filter(move |plan| plan.slots() <= limit)
     }
 
     /// The kind that the header names.
@@ -58,6 +64,14 @@ impl Plan {
         }
     }
 
+    /// The doublings that fill the table.
+    pub fn table_doublings(self) -> usize {
+        match self {
+            Plan::Joint => 0,
+            Plan::Interleaved { m1, m2 } => usize::from(m1 >= 3) + usize::from(m2 >= 3),
+        }
+    }
+
     /// The T lines in order.
     pub fn table(self) -> Vec<Pair> {
         match self {
@@ -77,6 +91,14 @@ impl Plan {
             Plan::Interleaved { .. } => [(a, 0), (0, b)],
         };
         steps.into_iter().filter(|&step| step != (0, 0))
+    }
+}
+
+/// As a header names it: the kind and the windows.
+impl fmt::Display for Plan {
+    fn fmt(&self, out: &mut fmt::Formatter) -> fmt::Result {
+        let (kind, (m1, m2)) = (self.kind(), self.windows());
+        write!(out, "{kind},{m1},{m2}")
     }
 }
 
@@ -113,6 +135,7 @@ mod tests {
             let (doublings, additions): (Vec<_>, Vec<_>) =
                 plan.table().into_iter().partition(|&line| is_doubling(line));
             assert_eq!(additions.len(), plan.table_additions());
+            assert_eq!(doublings.len(), plan.table_doublings());
             assert_eq!(additions.len() + doublings.len().min(1), plan.slots());
         }
     }

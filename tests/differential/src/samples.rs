@@ -106,6 +106,7 @@ fn orders() -> Vec<(Call, Says)> {
     let seven_and_two = Answer::Sheet { bytes: SEVEN_AND_TWO.as_bytes().to_vec(), additions: 2 };
     vec![
         (cheapest(3, 0, 1, 16_384), Says::Header("S,I,1,1,0,1,2,3,0")),
+        (cheapest(3, 0, 2, 16_384), Says::Header("S,I,3,1,2,1,1,3,0")),
         (cheapest(7, 2, 0, 16_384), Says::Whole(seven_and_two)),
     ]
 }

@@ -72,10 +72,10 @@ pub fn columns(k_row: &[i8], l_row: &[i8]) -> Vec<Pair> {
 
 impl fmt::Display for Sheet {
     fn fmt(&self, out: &mut fmt::Formatter) -> fmt::Result {
-        let (kind, (m1, m2), slots) = (self.plan.kind(), self.plan.windows(), self.plan.slots());
+        let (plan, slots) = (self.plan, self.plan.slots());
         let (additions, doublings) = (self.additions(), self.doublings());
         let (k, l) = (self.k.to_hex(), self.l.to_hex());
-        writeln!(out, "S,{kind},{m1},{m2},{slots},{additions},{doublings},{k},{l}")?;
+        writeln!(out, "S,{plan},{slots},{additions},{doublings},{k},{l}")?;
         for (a, b) in self.plan.table() {
             writeln!(out, "T,{a},{b}")?;
         }

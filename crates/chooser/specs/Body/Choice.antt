@@ -1,30 +1,30 @@
--- The choice of a plan as the code makes it, from the weights of the scalars, and the call for the sheet of the plan chosen.
+-- The choice of a plan as the code makes it, from the sizes of the scalars' rows, and the call for the sheet of the plan chosen.
 use mathlib.Core.Path.{_≡_}
-use mathlib.Core.List.{List, [], _∷_}
-use Prim.Native.Nat.{ℕ, _+_, _-_, _/_, _≤_}
-use lib.ListN.{getD, drop}
+use mathlib.Core.List.{List, []}
+use Prim.Native.Nat.{ℕ, _+_, _-_, _≤_, max}
+use lib.ListN.{drop}
 use Rattle.digits.specs.Limits.{Limits}
 use Rattle.sheet.specs.declared.Plan.{Plan}
 use Rattle.sheet.specs.declared.Plan.the-variants.{J, I}
-use Rattle.sheet.specs.Plan.{slots, tableAdditions}
-use Rattle.written.specs.Written.{first}
+use Rattle.sheet.specs.Plan.{tableAdditions, tableDoublings}
 use Rattle.writer.specs.declared.answer.Sheet.{Sheet}
 use Rattle.writer.specs.Call.{jAnswer, jBuffer, iAnswer, iBuffer}
-use Rattle.chooser.specs.Cheapest.{rank, plans, within}
-use Rattle.chooser.specs.declared.choice.Cost.{Cost}
+use Rattle.chooser.specs.Cheapest.{keyWith, plans, within}
+use Rattle.chooser.specs.declared.sizes.Size.{Size}
+use Rattle.chooser.specs.Body.Sizes.{placesAt, weightAt}
 
--- the key of a cost
-abbrev pub keyOf : Cost → List ℕ
-keyOf c = c .additions ∷ c .slots ∷ c .rank ∷ c .first ∷ []
+-- what a plan counts, and the places of its digits, from the sizes of the rows for 1, 3, 5 and so on, and of the joint form
+abbrev pub planWeight : Plan → List ℕ → List ℕ → Size → ℕ
+planWeight J ks ls j = j .weight
+planWeight (I m1 m2) ks ls j = weightAt ks m1 + weightAt ls m2
 
--- what a plan counts, from the weights of the rows for 1, 3, 5 and so on, and of the joint form
-abbrev pub planWeight : Plan → List ℕ → List ℕ → ℕ → ℕ
-planWeight J ks ls j = j
-planWeight (I m1 m2) ks ls j = getD ks ((m1 - 1) / 2) 0 + getD ls ((m2 - 1) / 2) 0
+abbrev pub planPlaces : Plan → List ℕ → List ℕ → Size → ℕ
+planPlaces J ks ls j = j .places
+planPlaces (I m1 m2) ks ls j = max (placesAt ks m1) (placesAt ls m2)
 
--- the key of a plan by these weights
-unfoldable pub costKey : List ℕ → List ℕ → ℕ → Plan → List ℕ
-costKey ks ls j p = (tableAdditions p + (planWeight p ks ls j - 1)) ∷ slots p ∷ rank p ∷ first p ∷ []
+-- the key of a plan by these sizes
+unfoldable pub costKey : List ℕ → List ℕ → Size → Plan → List ℕ
+costKey ks ls j p = keyWith (tableAdditions p + (planWeight p ks ls j - 1)) (tableDoublings p + (planPlaces p ks ls j - 1)) p
 
 -- the first n plans are enough to try for a limit: all others need more slots
 pub record Enough (limit n : ℕ) : Type 0 where

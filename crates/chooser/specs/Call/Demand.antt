@@ -1,7 +1,7 @@
--- Demand 3 of the call: what it writes is what demand 3 asks for.
+-- Demand 3 of the calls: the plan is the first in the order, and what is written is what demand 3 asks for.
 use mathlib.Core.Path.{_≡_, refl, sym, ap, subst, _∙_}
 use mathlib.Core.Bool.{Bool, true, false, _&&_, cond}
-use mathlib.Core.List.{List, []}
+use mathlib.Core.List.{List}
 use Prim.Native.Nat.{ℕ, _<_, _^_}
 use native.Mathlib.Omega.{arith}
 use lib.ListN.{length, drop}
@@ -12,11 +12,40 @@ use Rattle.writer.specs.declared.answer.Sheet.{Sheet}
 use Rattle.writer.specs.declared.answer.Sheet.the-variants.{BadScalar, NoRoom, BadLimit}
 use Rattle.sheet.specs.Plan.{isLimit}
 use Rattle.sheet.specs.declared.Plan.{Plan}
-use Rattle.written.specs.Written.{digits, writtenAdditions}
+use Rattle.written.specs.Written.{digits, writtenAdditions, writtenDoublings}
 use Rattle.writer.specs.Call.{number, roomy, wrote, left}
+use Rattle.chooser.specs.declared.call.Choice.the-variants as Choices
 use Rattle.chooser.specs.Cheapest.{cheapestPlan, First, cheapest}
-use Rattle.chooser.specs.Call.{cheapestQuestion, cheapestAnswer, cheapestBuffer, Cheapest, Promised}
-use Rattle.chooser.specs.Cheapest.Sheet.{additions-of, cheapest-plan, first-plan, cheapest-digits, cheapest-is-least, cheapest-accepted, cheapest-within, cheapest-counted}
+use Rattle.chooser.specs.Call.{choiceNumber, choiceQuestion, choiceAnswer, ChoicePromised, cheapestQuestion, cheapestAnswer, cheapestBuffer, Cheapest, Promised}
+use Rattle.chooser.specs.Cheapest.Least.{first-plan}
+use Rattle.chooser.specs.Cheapest.Sheet.{additions-of, cheapest-plan, cheapest-digits, cheapest-is-least, cheapest-accepted, cheapest-within, cheapest-counted, cheapest-doubled}
+
+-- ── the plan ────────────────────────────────────────────────────────────────────────────────
+
+-- whatever is asked, the answer keeps the promise, and its number is that of the first question missed
+module _ (limits : Limits) (k l : List ℕ) (limit : ℕ) where
+  pub choice-promised : ChoicePromised (choiceAnswer limits k l limit) (scalar k) (scalar l) limit
+  unfolding choiceAnswer
+  choice-promised = go (sized limits k && sized limits l) (isLimit limit)
+    where
+      go : (a b : Bool)
+          → ChoicePromised (cond a (cond b (Choices.Is (cheapestPlan (scalar k) (scalar l) limit)) Choices.BadLimit) Choices.BadScalar) (scalar k) (scalar l) limit
+      go true true = first-plan (scalar k) (scalar l) limit
+      go true false = tt
+      go false b = tt
+
+  pub choice-question : choiceNumber (choiceAnswer limits k l limit) ≡ choiceQuestion limits k l limit
+  unfolding choiceAnswer
+  choice-question = go (sized limits k) (sized limits l) (isLimit limit)
+    where
+      go : (a b c : Bool)
+          → choiceNumber (cond (a && b) (cond c (Choices.Is (cheapestPlan (scalar k) (scalar l) limit)) Choices.BadLimit) Choices.BadScalar) ≡ cond a (cond b (cond c 0 4) 1) 1
+      go true true true = refl
+      go true true false = refl
+      go true false c = refl
+      go false b c = refl
+
+-- ── its sheet ───────────────────────────────────────────────────────────────────────────────
 
 -- the cheapest sheet is what demand 3 asks for
 pub cheapest-sheet : (k l limit : ℕ) → k < 2 ^ 528 → l < 2 ^ 528
@@ -31,6 +60,7 @@ cheapest-sheet k l limit hk hl =
       within = cheapest-within k l limit hk hl;
       stated = cheapest-counted k l limit hk hl ∙ e;
       counted = e;
+      doubled = cheapest-doubled k l limit hk hl ∙ ap (λ (q : Plan). writtenDoublings q k l) p;
       least = λ t a h. omega (arith, e, cheapest-is-least k l limit hk hl t a h);
     }
 

@@ -1,12 +1,12 @@
 -- The cheapest plan: it is one of those within the limit, nothing of them comes before it, and it is the only such one.
-use mathlib.Core.Path.{_≡_, refl, sym, ap, ap₂, _∙_}
+use mathlib.Core.Path.{_≡_, refl, sym, ap, subst, _∙_}
+use mathlib.Core.Logic.{_≢_, _⊎_, inl, inr}
 use mathlib.Core.Bool.{Bool, true, false, _&&_}
 use mathlib.Core.List.{List}
-use Prim.Native.Nat.{ℕ, _-_, _≤_}
+use Prim.Native.Nat.{ℕ, _≤_}
 use native.Mathlib.Omega.{arith}
 use lib.Dec.{T}
 use lib.IntN.{pos}
-use lib.ListN.{getD}
 use Rattle.digits.specs.Row.{value, isWindow}
 use Rattle.digits.specs.Two.{Column}
 use Rattle.forms.specs.Promise.{row-fewest, joint-fewest}
@@ -14,15 +14,15 @@ use Rattle.forms.specs.Row.{row}
 use Rattle.sheet.specs.declared.Plan.{Plan}
 use Rattle.sheet.specs.declared.Plan.the-variants.{J, I}
 use Rattle.sheet.specs.Digits.{Fits, weight, rowP, rowQ}
-use Rattle.sheet.specs.Plan.Slots.{second-told}
 use Rattle.sheet.specs.Plan.{slots}
 use Rattle.written.specs.Valid.{Valid, forJ, forI, window-positive}
 use Rattle.written.specs.Written.Columns.{paired-weight}
-use Rattle.written.specs.Written.{digits, writtenAdditions, first}
+use Rattle.written.specs.Written.{digits, writtenAdditions}
 use Rattle.writer.specs.Call.Met.{windows-valid}
 use Rattle.chooser.specs.Lexicographic.{before}
-use Rattle.chooser.specs.Lexicographic.Order.{In, before-first, before-same, least-one, least-least}
-use Rattle.chooser.specs.Cheapest.{cheapestPlan, key, rank, plans, within}
+use Rattle.chooser.specs.Lexicographic.Order.{In, before-first, before-self, before-same, least-one, least-least}
+use Rattle.chooser.specs.Cheapest.{cheapestPlan, key, plans, within, Sooner, First}
+use Rattle.chooser.specs.Cheapest.Order.{sooner-exactly, key-only, order-total}
 use Rattle.chooser.specs.Cheapest.Lists.{in-plans, joint-in-plans, in-within, within-in, plans-valid, isValid}
 
 -- the digits that 01 takes have the fewest non-zero ones of all that read k and l by the plan
@@ -59,7 +59,7 @@ module _ (k l limit : ℕ) where
       (valid-of (I 1 1) tt, omega arith) (λ p o. (within-valid limit o, within-in limit plans o .1))
 
   -- no plan within the limit comes before it
-  pub plan-first : (p : Plan) → Valid p → slots p ≤ limit → before (key k l p) (key k l (cheapestPlan k l limit)) ≡ false
+  plan-first : (p : Plan) → Valid p → slots p ≤ limit → before (key k l p) (key k l (cheapestPlan k l limit)) ≡ false
   unfolding cheapestPlan
   plan-first p v h = least-least (key k l) p (I 1 1) (within limit plans) (in-within limit h (valid-in v))
 
@@ -67,36 +67,27 @@ module _ (k l limit : ℕ) where
   unfolding key
   plan-least p v h = before-first _ _ _ _ (plan-first p v h)
 
--- a plan's key tells the plan
-record Parts (p q : Plan) : Type 0 where
-  slots-same : slots p ≡ slots q
-  rank-same : rank p ≡ rank q
-  first-same : first p ≡ first q
+-- it comes before every other
+pub first-plan : (k l limit : ℕ) → First k l limit (cheapestPlan k l limit)
+first-plan k l limit =
+    let v = plan-within k l limit in
+    record { valid = v .0; within = v .1; before-all = λ q w h n. go q w h (order-total k l .one-first q (cheapestPlan k l limit) w (v .0) n) }
+  where
+    go : (q : Plan) → Valid q → slots q ≤ limit
+        → Sooner k l q (cheapestPlan k l limit) ⊎ Sooner k l (cheapestPlan k l limit) q → Sooner k l (cheapestPlan k l limit) q
+    go q w h (inl s) = absurd (subst T (sym (sooner-exactly k l q (cheapestPlan k l limit) .0 s) ∙ plan-first k l limit q w h) tt)
+    go q w h (inr s) = s
 
-parts : (k l : ℕ) (p q : Plan) → key k l p ≡ key k l q → Parts p q
-unfolding key
-parts k l p q e =
-    record {
-      slots-same = ap (λ (n : List ℕ). getD n 1 0) e;
-      rank-same = ap (λ (n : List ℕ). getD n 2 0) e;
-      first-same = ap (λ (n : List ℕ). getD n 3 0) e;
-    }
-
-same-plan : {p q : Plan} → Valid p → Valid q → Parts p q → p ≡ q
-same-plan forJ forJ e = refl
-same-plan forJ (forI v w) e = absurd (omega (arith, e .rank-same))
-same-plan (forI v w) forJ e = absurd (omega (arith, e .rank-same))
-same-plan (forI {m1} {m2} v w) (forI {m1 = n1} {m2 = n2} x y) e =
-    let slots-told : slots (I m1 m2) ≡ slots (I m1 n2) = e .slots-same ∙ ap (λ (a : ℕ). slots (I a n2)) (sym (e .first-same)) in
-    ap₂ (λ (a b : ℕ). I a b) (e .first-same) (second-told m1 m2 n2 (omega (arith, v .odd)) (w .odd) (y .odd) slots-told)
-
-pub key-only : (k l : ℕ) (p q : Plan) → Valid p → Valid q → key k l p ≡ key k l q → p ≡ q
-key-only k l p q v w e = same-plan v w (parts k l p q e)
-
--- a plan within the limit that no other comes before is the cheapest plan
-pub plan-only : (k l limit : ℕ) (p : Plan) → Valid p → slots p ≤ limit
-    → ((q : Plan) → Valid q → slots q ≤ limit → before (key k l q) (key k l p) ≡ false) → p ≡ cheapestPlan k l limit
-plan-only k l limit p v h f =
-    let c = plan-within k l limit in
-    key-only k l p (cheapestPlan k l limit) v (c .0)
-    (before-same (key k l p) (key k l (cheapestPlan k l limit)) (plan-first k l limit p v h) (f (cheapestPlan k l limit) (c .0) (c .1)))
+-- and it is the only one that does
+pub first-only : (k l limit : ℕ) (p : Plan) → First k l limit p → p ≡ cheapestPlan k l limit
+first-only k l limit p f =
+    let c = cheapestPlan k l limit in
+    let w = plan-within k l limit in
+    let behind = plan-first k l limit p (f .valid) (f .within) in
+    let other : before (key k l c) (key k l p) ≡ true → c ≢ p = λ t e. subst T (sym t ∙ ap (λ (q : Plan). before (key k l q) (key k l p)) e ∙ before-self (key k l p)) tt in
+    key-only k l p c (f .valid) (w .0) (before-same (key k l p) (key k l c) behind
+    (never (before (key k l c) (key k l p)) (λ t. subst T (sym (sooner-exactly k l p c .0 (f .before-all c (w .0) (w .1) (other t))) ∙ behind) tt)))
+  where
+    never : (b : Bool) → (b ≡ true → ⊥) → b ≡ false
+    never true h = absurd (h refl)
+    never false h = refl

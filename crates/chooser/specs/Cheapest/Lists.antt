@@ -23,7 +23,7 @@ in-right : {A : Type 0} {x : A} (xs : List A) {ys : List A} → In x ys → In x
 in-right [] o = o
 in-right (x ∷ xs) o = there (in-right xs o)
 
-in-map : {A B : Type 0} (f : A → B) {x : A} {xs : List A} → In x xs → In (f x) (map f xs)
+pub in-map : {A B : Type 0} (f : A → B) {x : A} {xs : List A} → In x xs → In (f x) (map f xs)
 in-map f here = here
 in-map f (there o) = there (in-map f o)
 

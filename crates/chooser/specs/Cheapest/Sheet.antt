@@ -2,22 +2,21 @@
 -- the limit has as many. From the laws of written sheets, of the digits of accepted ones, and of the cheapest plan.
 use mathlib.Core.Path.{_≡_, sym, ap, subst}
 use mathlib.Core.List.{List}
-use Prim.Native.Nat.{ℕ, _-_, _^_, _≤_, _<_}
+use Prim.Native.Nat.{ℕ, _^_, _≤_, _<_}
 use native.Mathlib.Omega.{arith}
 use Rattle.digits.specs.Limits.{card}
-use Rattle.sheet.specs.declared.Plan.{Plan}
 use Rattle.sheet.specs.Answer.{Accepted, heading, sheetSlots, sheetAdditions}
 use Rattle.sheet.specs.Promise.{accepted-exactly, accepted-states, accepted-rows}
 use Rattle.sheet.specs.Digits.{columns}
 use Rattle.sheet.specs.Line.{Kind, Header, plan, planOf}
 use Rattle.sheet.specs.Sound.{Windows, forJ, forI, sheetLines}
 use Rattle.sheet.specs.Spelling.{lines}
-use Rattle.written.specs.Promise.{written-accepted, written-lines, written-plan, written-slots, written-counted, written-cost, written-columns}
+use Rattle.written.specs.Promise.{written-accepted, written-lines, written-plan, written-slots, written-counted, written-doubled, written-cost, written-columns}
 use Rattle.written.specs.Valid as Valids
 use Rattle.written.specs.Valid.{Valid}
-use Rattle.written.specs.Written.{digits, writtenAdditions}
-use Rattle.chooser.specs.Cheapest.{cheapestPlan, First, cheapest}
-use Rattle.chooser.specs.Cheapest.Least.{digits-fewest, plan-within, plan-first, plan-least, plan-only}
+use Rattle.written.specs.Written.{digits, writtenAdditions, writtenDoublings}
+use Rattle.chooser.specs.Cheapest.{cheapestPlan, cheapest}
+use Rattle.chooser.specs.Cheapest.Least.{digits-fewest, plan-within, plan-least}
 
 windows-valid : (h : Header) → Windows (h .kind) (h .m1) (h .m2) → Valid (plan h)
 windows-valid h w = go (h .kind) w
@@ -64,6 +63,12 @@ pub cheapest-counted : (k l limit : ℕ) → k < 2 ^ 528 → l < 2 ^ 528
     → heading (lines card (cheapest k l limit)) .additions ≡ sheetAdditions card (cheapest k l limit)
 cheapest-counted k l limit hk hl = accepted-states card (cheapest k l limit) k l (cheapest-accepted k l limit hk hl) .1
 
+-- its header counts the doublings by which its plan is compared
+pub cheapest-doubled : (k l limit : ℕ) → k < 2 ^ 528 → l < 2 ^ 528
+    → heading (lines card (cheapest k l limit)) .doublings ≡ writtenDoublings (cheapestPlan k l limit) k l
+unfolding cheapest
+cheapest-doubled k l limit hk hl = written-doubled (cheapestPlan k l limit) k l (plan-within k l limit .0) hk hl
+
 -- its digits are 01's row or joint form of the cheapest plan
 pub cheapest-digits : (k l limit : ℕ) → k < 2 ^ 528 → l < 2 ^ 528 → columns (lines card (cheapest k l limit)) ≡ digits (cheapestPlan k l limit) k l
 unfolding cheapest
@@ -75,12 +80,3 @@ cheapest-digits k l limit hk hl =
 pub cheapest-plan : (k l limit : ℕ) → k < 2 ^ 528 → l < 2 ^ 528 → plan (heading (lines card (cheapest k l limit))) ≡ cheapestPlan k l limit
 unfolding cheapest
 cheapest-plan k l limit hk hl = written-plan (cheapestPlan k l limit) k l (plan-within k l limit .0) hk hl
-
--- which is the first in 01's order
-pub first-plan : (k l limit : ℕ) → First k l limit (cheapestPlan k l limit)
-first-plan k l limit =
-    let v = plan-within k l limit in record { valid = v .0; within = v .1; least = plan-first k l limit }
-
--- and the only one that is
-pub first-only : (k l limit : ℕ) (p : Plan) → First k l limit p → p ≡ cheapestPlan k l limit
-first-only k l limit p f = plan-only k l limit p (f .valid) (f .within) (f .least)

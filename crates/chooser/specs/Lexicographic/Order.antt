@@ -1,5 +1,6 @@
 -- The order of lists of numbers is total, and the first least of a list is one of them that no other comes before. Assumes nothing.
 use mathlib.Core.Path.{_≡_, refl, sym, ap, ap₂, subst, _∙_}
+use mathlib.Core.Logic.{_⊎_, inl, inr}
 use mathlib.Core.Bool.{Bool, true, false, _&&_, _||_, cond}
 use mathlib.Core.List.{List, [], _∷_}
 use Prim.Native.Nat.{ℕ, _≤_, _<_}
@@ -21,13 +22,13 @@ order x y = go (ltb x y) (eqb x y) refl refl
     go false true e f = same (eqb-true x y f)
     go false false e f = more (omega (arith, ltb-false x y e, eqb-false x y f))
 
-first-less : (x y : ℕ) (xs ys : List ℕ) → x < y → before (x ∷ xs) (y ∷ ys) ≡ true
+pub before-less : (x y : ℕ) (xs ys : List ℕ) → x < y → before (x ∷ xs) (y ∷ ys) ≡ true
 unfolding before
-first-less x y xs ys h = rw (lt-ltb x y h)
+before-less x y xs ys h = rw (lt-ltb x y h)
 
-first-same : (x y : ℕ) (xs ys : List ℕ) → x ≡ y → before (x ∷ xs) (y ∷ ys) ≡ before xs ys
+pub before-agrees : (x y : ℕ) (xs ys : List ℕ) → x ≡ y → before (x ∷ xs) (y ∷ ys) ≡ before xs ys
 unfolding before
-first-same x y xs ys h = rw (le-ltb x y (omega arith), eq-eqb x y h)
+before-agrees x y xs ys h = rw (le-ltb x y (omega arith), eq-eqb x y h)
 
 first-more : (x y : ℕ) (xs ys : List ℕ) → y < x → before (x ∷ xs) (y ∷ ys) ≡ false
 unfolding before
@@ -37,7 +38,7 @@ first-more x y xs ys h = rw (le-ltb x y (omega arith), ne-eqb x y (omega arith))
 pub before-self : (a : List ℕ) → before a a ≡ false
 unfolding before
 before-self [] = refl
-before-self (x ∷ xs) = first-same x x xs xs refl ∙ before-self xs
+before-self (x ∷ xs) = before-agrees x x xs xs refl ∙ before-self xs
 
 -- where b does not come before a, nor c before b, c does not come before a
 pub before-down : (a b c : List ℕ) → before b a ≡ false → before c b ≡ false → before c a ≡ false
@@ -50,13 +51,13 @@ before-down (x ∷ xs) (y ∷ ys) [] h k = absurd (subst T k tt)
 before-down (x ∷ xs) (y ∷ ys) (z ∷ zs) h k = go (before-down xs ys zs) (order y x) (order z y)
   where
     go : (before ys xs ≡ false → before zs ys ≡ false → before zs xs ≡ false) → Order y x → Order z y → before (z ∷ zs) (x ∷ xs) ≡ false
-    go ih (less p) q = absurd (subst T (sym (first-less y x ys xs p) ∙ h) tt)
-    go ih (same p) (less q) = absurd (subst T (sym (first-less z y zs ys q) ∙ k) tt)
+    go ih (less p) q = absurd (subst T (sym (before-less y x ys xs p) ∙ h) tt)
+    go ih (same p) (less q) = absurd (subst T (sym (before-less z y zs ys q) ∙ k) tt)
     go ih (same p) (same q) =
-        first-same z x zs xs (q ∙ p)
-        ∙ ih (sym (first-same y x ys xs p) ∙ h) (sym (first-same z y zs ys q) ∙ k)
+        before-agrees z x zs xs (q ∙ p)
+        ∙ ih (sym (before-agrees y x ys xs p) ∙ h) (sym (before-agrees z y zs ys q) ∙ k)
     go ih (same p) (more q) = first-more z x zs xs (omega arith)
-    go ih (more p) (less q) = absurd (subst T (sym (first-less z y zs ys q) ∙ k) tt)
+    go ih (more p) (less q) = absurd (subst T (sym (before-less z y zs ys q) ∙ k) tt)
     go ih (more p) (same q) = first-more z x zs xs (omega arith)
     go ih (more p) (more q) = first-more z x zs xs (omega arith)
 
@@ -70,8 +71,16 @@ before-one (x ∷ xs) (y ∷ ys) h = go (before-one xs ys) (order x y)
   where
     go : (before xs ys ≡ true → before ys xs ≡ false) → Order x y → before (y ∷ ys) (x ∷ xs) ≡ false
     go ih (less p) = first-more y x ys xs p
-    go ih (same p) = first-same y x ys xs (sym p) ∙ ih (sym (first-same x y xs ys p) ∙ h)
+    go ih (same p) = before-agrees y x ys xs (sym p) ∙ ih (sym (before-agrees x y xs ys p) ∙ h)
     go ih (more p) = absurd (subst T (sym h ∙ first-more x y xs ys p) tt)
+
+-- what comes before something comes before all that this comes before
+pub before-onward : (a b c : List ℕ) → before a b ≡ true → before b c ≡ true → before a c ≡ true
+before-onward a b c h k = go (before a c) refl
+  where
+    go : (t : Bool) → before a c ≡ t → t ≡ true
+    go true e = refl
+    go false e = absurd (subst T (sym h ∙ before-down b c a (before-one b c k) e) tt)
 
 -- two keys of which neither comes first are the same
 pub before-same : (a b : List ℕ) → before a b ≡ false → before b a ≡ false → a ≡ b
@@ -82,17 +91,17 @@ before-same (x ∷ xs) [] h k = absurd (subst T k tt)
 before-same (x ∷ xs) (y ∷ ys) h k = go (before-same xs ys) (order x y)
   where
     go : (before xs ys ≡ false → before ys xs ≡ false → xs ≡ ys) → Order x y → x ∷ xs ≡ y ∷ ys
-    go ih (less p) = absurd (subst T (sym (first-less x y xs ys p) ∙ h) tt)
+    go ih (less p) = absurd (subst T (sym (before-less x y xs ys p) ∙ h) tt)
     go ih (same p) =
-        let e = ih (sym (first-same x y xs ys p) ∙ h) (sym (first-same y x ys xs (sym p)) ∙ k) in λ i. p i ∷ e i
-    go ih (more p) = absurd (subst T (sym (first-less y x ys xs p) ∙ k) tt)
+        let e = ih (sym (before-agrees x y xs ys p) ∙ h) (sym (before-agrees y x ys xs (sym p)) ∙ k) in λ i. p i ∷ e i
+    go ih (more p) = absurd (subst T (sym (before-less y x ys xs p) ∙ k) tt)
 
 -- the first numbers of two keys
 pub before-first : (x y : ℕ) (xs ys : List ℕ) → before (x ∷ xs) (y ∷ ys) ≡ false → y ≤ x
 before-first x y xs ys h = go (order x y)
   where
     go : Order x y → y ≤ x
-    go (less p) = absurd (subst T (sym (first-less x y xs ys p) ∙ h) tt)
+    go (less p) = absurd (subst T (sym (before-less x y xs ys p) ∙ h) tt)
     go (same p) = omega arith
     go (more p) = omega arith
 
@@ -159,7 +168,26 @@ least-agrees key other a (b ∷ bs) e h =
     agree true = h b here
     agree false = e
 
+-- by two keys that order the things alike, the least is the same
+pub least-ordered : {A : Type 0} (key other : A → List ℕ) → ((x y : A) → before (key x) (key y) ≡ before (other x) (other y)) → (a : A) (bs : List A)
+    → least key a bs ≡ least other a bs
+unfolding least
+least-ordered key other h a [] = refl
+least-ordered key other h a (b ∷ bs) =
+    ap (λ (t : Bool). least key (cond t b a) bs) (h b a) ∙ least-ordered key other h (better other a b) bs
+
 -- a key is compared number by number
+abbrev pub Decides : ℕ → ℕ → List ℕ → List ℕ → Type 0
+Decides x y xs ys = (x < y) ⊎ ((x ≡ y) × (before xs ys ≡ true))
+
+pub before-parts : (x y : ℕ) (xs ys : List ℕ) → before (x ∷ xs) (y ∷ ys) ≡ true → Decides x y xs ys
+before-parts x y xs ys t = go (order x y)
+  where
+    go : Order x y → Decides x y xs ys
+    go (less h) = inl h
+    go (same h) = inr (h, sym (before-agrees x y xs ys h) ∙ t)
+    go (more h) = absurd (subst T (sym t ∙ first-more x y xs ys h) tt)
+
 pub before-differs : (x y : ℕ) (xs ys : List ℕ) → (x ≡ y → ⊥) → ltb x y ≡ before (x ∷ xs) (y ∷ ys)
 unfolding before
 before-differs x y xs ys h = sym (rw (ne-eqb x y h) (or-false (ltb x y)))
@@ -167,9 +195,6 @@ before-differs x y xs ys h = sym (rw (ne-eqb x y h) (or-false (ltb x y)))
     or-false : (b : Bool) → b || false ≡ b
     or-false true = refl
     or-false false = refl
-
-pub before-agrees : (x y : ℕ) (xs ys : List ℕ) → x ≡ y → before (x ∷ xs) (y ∷ ys) ≡ before xs ys
-before-agrees x y xs ys h = first-same x y xs ys h
 
 pub before-last : (x y : ℕ) → ltb x y ≡ before (x ∷ []) (y ∷ [])
 unfolding before

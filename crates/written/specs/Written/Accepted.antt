@@ -27,7 +27,7 @@ use Rattle.sheet.specs.Sound.{Steps, stepLines, sheetLines, Windows, Allowed, S
 use Rattle.sheet.specs.Sound as Sounds
 use Rattle.sheet.specs.Spelling.Spelled.{ShortHeader, spelled-read}
 use Rattle.sheet.specs.Spelling.{lines}
-use Rattle.written.specs.Written.{digits, stepsOf, kindOf, first, second, heading, linesWith, writtenLines, writtenAdditions, written}
+use Rattle.written.specs.Written.{digits, stepsOf, kindOf, first, second, heading, linesWith, writtenLines, writtenAdditions, writtenDoublings, written}
 use Rattle.written.specs.Written.Columns.{digits-fit, digits-value, digits-top, digits-length}
 use Rattle.written.specs.Valid.{Valid, forJ, forI}
 use Rattle.written.specs.Written.Stepping.{Stepped, steps-of}
@@ -101,8 +101,8 @@ module _ (p : Plan) (k l : ℕ) where
   lines-doublings = sheet-doublings head p (stepsOf p (digits p k l)) ∙ sym head-doublings
 
   -- the header states the counts of the lines
-  pub written-header : writtenLines p k l ≡ linesWith p (writtenAdditions p k l) (doublings (writtenLines p k l)) k l
-  unfolding writtenLines writtenAdditions
+  pub written-header : writtenLines p k l ≡ linesWith p (writtenAdditions p k l) (writtenDoublings p k l) k l
+  unfolding writtenLines writtenAdditions writtenDoublings
   written-header = ap₂ (λ (a d : ℕ). linesWith p a d k l) (sym lines-additions) (sym lines-doublings)
 
   module _ (v : Valid p) where
@@ -115,8 +115,8 @@ module _ (p : Plan) (k l : ℕ) where
     written-columns = sheet-columns head (tables p) (stepsOf p (digits p k l)) ∙ stepped .made
 
     -- the doublings: those of the table, and one for each place below the top
-    pub written-doublings : doublings (writtenLines p k l) ≡ tableDoublings p + (length (digits p k l) - 1)
-    unfolding stepDoublings
+    pub written-doublings : writtenDoublings p k l ≡ tableDoublings p + (length (digits p k l) - 1)
+    unfolding stepDoublings writtenDoublings
     written-doublings = lines-doublings ∙ head-doublings ∙ ap (λ (n : ℕ). tableDoublings p + n) (stepped .doublings-are)
 
     -- the lines come to kP + lQ
@@ -211,6 +211,11 @@ module _ (p : Plan) (k l : ℕ) where
       pub additions-within : sheetAdditions limits (written p k l) ≡ writtenAdditions p k l
       unfolding sheetAdditions writtenAdditions
       additions-within = ap additions lines-within
+
+      -- its header states its doublings
+      pub doubled-within : Answer.heading (lines limits (written p k l)) .doublings ≡ writtenDoublings p k l
+      unfolding sheetLines
+      doubled-within = ap (λ (ls : List Line). Answer.heading ls .doublings) (lines-within ∙ written-header)
 
       -- its additions: those of the table, and one for each step but the load
       pub cost-within : writtenAdditions p k l ≡ tableAdditions p + (weight p (digits p k l) - 1)

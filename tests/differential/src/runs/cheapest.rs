@@ -4,7 +4,7 @@ use super::{refused_scalars, ROOM, ROOMS};
 use crate::judge::Judge;
 use reference::answer::Answer;
 use reference::calls::Call;
-use reference::cheapest::Weights;
+use reference::cheapest::Forms;
 use reference::plan::MOST_SLOTS;
 use reference::random::Random;
 use reference::scalars;
@@ -23,9 +23,9 @@ pub fn run(judge: &mut Judge, random: &mut Random) {
 }
 
 fn every_limit(judge: &mut Judge, k: &[u8], l: &[u8]) {
-    let weights = Weights::of(scalars::value(k), scalars::value(l));
+    let forms = Forms::of(scalars::value(k), scalars::value(l));
     for limit in 0..=MOST_SLOTS {
-        let sheet = weights.cheapest_sheet(limit as usize);
+        let sheet = forms.cheapest_sheet(limit as usize);
         let call = Call::Cheapest { k: k.to_vec(), l: l.to_vec(), limit, room: ROOM };
         judge.compare_with(&call, &Answer::sheet(&sheet));
     }

@@ -1,5 +1,6 @@
 //! The runs: which calls are compared.
 
+pub mod changed_orders;
 pub mod cheapest;
 pub mod joint_forms;
 pub mod licences;

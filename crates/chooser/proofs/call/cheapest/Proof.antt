@@ -1,64 +1,74 @@
 -- `cheapest` meets its contract: each return is one line of CallAnswers.
 use mathlib.Core.Path.{sym, _∙_}
-use mathlib.Core.Bool.{and-eq-true-iff}
-use Rattle.digits.specs.Scalar.Sized.{some-bytes}
-use Rattle.digits.specs.Scalar.{sized}
 use Rattle.digits.specs.Limits.{card}
+use Rattle.digits.specs.Scalar.{Bytes}
+use Rattle.chooser.specs.Call.Met.{scalars-missed, limit-missed, all-met}
 use Rattle.chooser.proofs.CallAnswers.{not-scalars, over-limit, by-plan}
 use borrow.Author.Needs.{needs}
 use Rattle.chooser.proofs.call.cheapest.Statement.{statement}
 use Rattle.chooser.proofs.call.cheapest.Tie as tie
 
-are-scalars-requires : tie.Need-are-scalars-requires
-are-scalars-requires c κs = search needs
+-- what was asked, and that both scalars are bytes
+module _ (c : tie.After-cheapest-plan) where
+  abbrev asked : tie.Start
+  asked = c .before .before .before .before
 
-is-limit-requires : tie.Need-is-limit-requires
-is-limit-requires c κs = search needs
+  k-bytes : Bytes (asked .args .k .now)
+  k-bytes i = c .before .before .before .shared-slice-known .given i .fits
+
+  l-bytes : Bytes (asked .args .l .now)
+  l-bytes i = c .before .before .shared-slice-known2 .given i .fits
 
 cheapest-plan-requires : tie.Need-cheapest-plan-requires
-cheapest-plan-requires c κs =
-    let s = c .before .before .before in
-    let a = s .before .before .before .before .args in
-    let z = and-eq-true-iff (sized card (a .k .now)) (sized card (a .l .now)) .0 (sym (s .are-scalars .ensures) ∙ c .before .before .if1 .taken) in
-    let k = some-bytes card (a .k .now) (z .0) in
-    let l = some-bytes card (a .l .now) (z .1) in
-    (k .0, (k .1, (l .0, l .1)))
+cheapest-plan-requires c κs = search needs
+
+enum-told : tie.Need-enum-told
+enum-told c = search needs
+
+enum-told-2 : tie.Need-enum-told-2
+enum-told-2 c = search needs
+
+enum-known-plan : tie.Need-enum-known-plan
+enum-known-plan c = search needs
 
 sheet-of-requires : tie.Need-sheet-of-requires
 sheet-of-requires c κs = search needs
 
-same-length : tie.Need-same-length
-same-length c = search needs
-
 returns : tie.Need-returns
 returns c =
-    let w = c .before .before in
-    let v = w .before .before in
-    let s = v .before .before .before .before in
-    let a = s .before .before .before .before .args in
-    by-plan (a .k .now) (a .l .now) (a .sheet .now) (a .limit) (λ i. s .before .before .before .shared-slice-known .given i .fits) (λ i. s .before .before .shared-slice-known2 .given i .fits) (sym (s .are-scalars .ensures) ∙ v .before .before .before .if1 .taken) (sym (v .before .before .is-limit .ensures) ∙ v .before .if2 .taken) (v .cheapest-plan .ensures) (w .sheet-of .ensures .0) (w .sheet-of .ensures .1)
+    let p = c .before .before in
+    let a = asked p .args in
+    not-scalars (a .k .now) (a .l .now) (a .sheet .now) (a .limit) (k-bytes p) (l-bytes p)
+    (scalars-missed card (a .k .now) (a .l .now) (a .limit) (sym (p .cheapest-plan .ensures .0) ∙ c .enum-told .given .1))
 
 returns-2 : tie.Need-returns-2
 returns-2 c =
-    let s = c .before .before .before in
-    let a = s .before .before .before .before .args in
-    over-limit (a .k .now) (a .l .now) (a .sheet .now) (a .limit) (λ i. s .before .before .before .shared-slice-known .given i .fits) (λ i. s .before .before .shared-slice-known2 .given i .fits) (sym (s .are-scalars .ensures) ∙ c .before .before .if1 .taken) (sym (c .before .is-limit .ensures) ∙ c .if2 .left)
+    let p = c .before .before in
+    let a = asked p .args in
+    let (sizes, high) = limit-missed card (a .k .now) (a .l .now) (a .limit) (sym (p .cheapest-plan .ensures .0) ∙ c .enum-told2 .given .1) in
+    over-limit (a .k .now) (a .l .now) (a .sheet .now) (a .limit) (k-bytes p) (l-bytes p) sizes high
+
+same-length : tie.Need-same-length
+same-length c = search needs
 
 returns-3 : tie.Need-returns-3
 returns-3 c =
-    let s = c .before in
-    let a = s .before .before .before .before .args in
-    not-scalars (a .k .now) (a .l .now) (a .sheet .now) (a .limit) (λ i. s .before .before .before .shared-slice-known .given i .fits) (λ i. s .before .before .shared-slice-known2 .given i .fits) (sym (s .are-scalars .ensures) ∙ c .if1 .left)
+    let w = c .before .before in
+    let p = w .before .before .before .before .before in
+    let a = asked p .args in
+    let (sizes, (low, chosen)) = all-met card (a .k .now) (a .l .now) (a .limit) (sym (p .cheapest-plan .ensures .0) ∙ w .before .before .before .plan .given .1) in
+    by-plan (a .k .now) (a .l .now) (a .sheet .now) (a .limit) (k-bytes p) (l-bytes p) sizes low chosen (w .sheet-of .ensures .0) (w .sheet-of .ensures .1)
 
 pub cheapest-spec : {M : Type 1} → statement M
 cheapest-spec =
     tie.close
     (tie.spec
-    are-scalars-requires
-    is-limit-requires
     cheapest-plan-requires
+    enum-told
+    enum-told-2
+    enum-known-plan
     sheet-of-requires
-    same-length
     returns
     returns-2
+    same-length
     returns-3)

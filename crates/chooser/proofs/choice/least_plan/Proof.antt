@@ -7,7 +7,8 @@ use lib.ListN.{drop}
 use Rattle.sheet.specs.declared.Plan.{Plan}
 use Rattle.sheet.specs.declared.Plan.the-variants.{I}
 use Rattle.chooser.specs.Cheapest.{plans, within}
-use Rattle.chooser.specs.Body.Choice.{keyOf, costKey}
+use Rattle.chooser.specs.Body.Choice.{costKey}
+use Rattle.chooser.specs.Candidate.Turns.{Stands}
 use Rattle.chooser.specs.Lexicographic.{least}
 use Rattle.chooser.proofs.Turns.{next-plan, last-plan}
 use Rattle.chooser.proofs.choice.least_plan.Statement.{statement}
@@ -15,7 +16,7 @@ use Rattle.chooser.proofs.choice.least_plan.Tie as tie
 
 abbrev Inv-loop : tie.InvT-loop
 Inv-loop k l joint limit best₀ most n₀ best n =
-    (n ≤ most) × (keyOf (best .cost) ≡ costKey k l joint (best .plan))
+    (n ≤ most) × Stands (costKey k l joint) best
     × (least (costKey k l joint) (best .plan) (within limit (drop n plans)) ≡ least (costKey k l joint) (I 1 1) (within limit plans))
 
 abbrev μ-loop : tie.MeasureT-loop
@@ -28,7 +29,7 @@ plans-to-try-requires : tie.Need-plans-to-try-requires Inv-loop μ-loop
 plans-to-try-requires c κs = search needs
 
 loop-holds : tie.Need-loop-holds Inv-loop μ-loop
-loop-holds c = (omega arith, c .before .cost-of .ensures, refl)
+loop-holds c = (omega arith, record { stands = c .before .cost-of .ensures }, refl)
 
 plan-at-requires : tie.Need-plan-at-requires Inv-loop μ-loop
 plan-at-requires c κs = omega arith

@@ -1,0 +1,75 @@
+-- The additions that the sheet calls tell, and what looking at the seven plans comes to.
+use mathlib.Core.Path.{_≡_, refl, ap, _∙_}
+use mathlib.Core.Bool.{Bool, true, false, _&&_, cond}
+use mathlib.Core.List.{List, [], _∷_}
+use Prim.Native.Nat.{ℕ, _≤_}
+use native.Mathlib.Omega.{arith}
+use borrow.Author.Tests.{le-leb}
+use lib.ListN.{length}
+use Rattle.digits.specs.Limits.{card}
+use Rattle.digits.specs.Scalar.{scalar, sized}
+use Rattle.sheet.specs.declared.Plan.{Plan}
+use Rattle.sheet.specs.declared.Plan.the-variants.{J, I}
+use Rattle.sheet.specs.Plan.{isWithin}
+use Rattle.sheet.specs.Questions.Planned.{of-window}
+use Rattle.written.specs.Valid.{Valid, forI}
+use Rattle.written.specs.Written.{writtenAdditions}
+use Rattle.writer.specs.Call.{additions, roomy, jAnswer, iAnswer}
+use Rattle.writer.specs.declared.answer.Sheet.{Sheet}
+use Rattle.chooser.specs.declared.choice.Candidate.{Candidate}
+use Rattle.chooser.specs.Candidate.{either}
+use Rattle.chooser.specs.Candidate.Turns.{Stands, either-better}
+use Rattle.chooser.specs.Cheapest.{within}
+use Rattle.chooser.specs.Lexicographic.{better, least}
+use Rattle.changes.specs.Body.{oldCost, oldBetter}
+use Rattle.changes.specs.Changed.{oldPlan}
+use Rattle.changes.specs.Changed.Old.{few, oldCostKey, old-few}
+
+-- a call with room for a sheet
+module _ (k l buffer : List ℕ) (sizes : (sized card k && sized card l) ≡ true) (long : length buffer ≡ 16384) where
+  roomed : roomy card (length buffer) ≡ true
+  roomed = le-leb 16384 (length buffer) (omega arith)
+
+  pub joint-additions : {r : Sheet} {a : ℕ} → r ≡ jAnswer card k l (length buffer) → a ≡ additions r → a ≡ writtenAdditions J (scalar k) (scalar l)
+  unfolding jAnswer
+  joint-additions e f = f ∙ ap additions e ∙ rw (sizes, roomed)
+
+  pub other-additions : {m1 m2 : ℕ} → Valid (I m1 m2) → {r : Sheet} {a : ℕ} → r ≡ iAnswer card k l m1 m2 (length buffer) → a ≡ additions r
+      → a ≡ writtenAdditions (I m1 m2) (scalar k) (scalar l)
+  unfolding iAnswer
+  other-additions (forI v w) e f = f ∙ ap additions e ∙ rw (sizes, of-window v, of-window w, roomed)
+
+-- looking at plans one after another comes to the least of them
+unfoldable pub looked : ℕ → ℕ → ℕ → Candidate → List Plan → Candidate
+looked k l limit best [] = best
+looked k l limit best (p ∷ ps) = looked k l limit (oldBetter k l limit best p) ps
+
+pub look-none : (k l limit : ℕ) (best : Candidate) → looked k l limit best [] ≡ best
+unfolding looked
+look-none k l limit best = refl
+
+pub look-one : (k l limit : ℕ) (best next : Candidate) (p : Plan) (ps : List Plan) → next ≡ oldBetter k l limit best p
+    → looked k l limit next ps ≡ looked k l limit best (p ∷ ps)
+unfolding looked
+look-one k l limit best next p ps e = ap (λ (c : Candidate). looked k l limit c ps) e
+
+looked-least : (k l limit : ℕ) (best : Candidate) (ps : List Plan) → Stands (oldCostKey k l) best
+    → looked k l limit best ps .plan ≡ least (oldCostKey k l) (best .plan) (within limit ps)
+unfolding looked within least
+looked-least k l limit best [] s = refl
+looked-least k l limit best (p ∷ ps) s =
+    let e = either-better (oldCostKey k l) best p (oldCost k l p) s refl in
+    go (isWithin p limit)
+    (looked-least k l limit (either best p (oldCost k l p)) ps (e .1) ∙ ap (λ (q : Plan). least (oldCostKey k l) q (within limit ps)) (e .0))
+    (looked-least k l limit best ps s)
+  where
+    go : (t : Bool) → looked k l limit (either best p (oldCost k l p)) ps .plan ≡ least (oldCostKey k l) (better (oldCostKey k l) (best .plan) p) (within limit ps)
+        → looked k l limit best ps .plan ≡ least (oldCostKey k l) (best .plan) (within limit ps)
+        → looked k l limit (cond t (either best p (oldCost k l p)) best) ps .plan ≡ least (oldCostKey k l) (best .plan) (cond t (p ∷ within limit ps) (within limit ps))
+    go true e f = e
+    go false e f = f
+
+-- for a limit of at most 3 it is the old plan
+pub looked-old : (k l limit : ℕ) → limit ≤ 3 → looked k l limit (record { plan = I 1 1; cost = oldCost k l (I 1 1) }) few .plan ≡ oldPlan k l limit
+looked-old k l limit h =
+    looked-least k l limit (record { plan = I 1 1; cost = oldCost k l (I 1 1) }) few (record { stands = refl }) ∙ old-few k l limit h

@@ -1,0 +1,4 @@
+pub mod Orders
+pub mod Additions
+pub mod Lines
+pub mod Turns

@@ -1,0 +1,4 @@
+pub mod Changed
+pub mod Body
+pub mod Samples
+pub mod Promise
