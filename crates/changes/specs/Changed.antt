@@ -2,6 +2,7 @@
 -- each.
 pub mod Old
 pub mod Listed
+use mathlib.Core.Path.{_≡_}
 use mathlib.Core.Logic.{_≢_}
 use mathlib.Core.Bool.{Bool, true, false, _&&_, cond}
 use mathlib.Core.List.{List, [], _∷_, _++_, map, flatMap}
@@ -13,7 +14,8 @@ use Rattle.sheet.specs.declared.Plan.the-variants.{J, I}
 use Rattle.sheet.specs.Plan.{slots}
 use Rattle.sheet.specs.Spelling.{comma, lineFeed, decimal, scalar, kind, join}
 use Rattle.written.specs.Written.{kindOf, first, second, writtenAdditions}
-use Rattle.chooser.specs.Lexicographic.{least}
+use Rattle.chooser.specs.Lexicographic.{before, least}
+use Rattle.chooser.specs.Lexicographic.Order.{In}
 use Rattle.chooser.specs.Cheapest.{plans, within, rank, cheapestPlan}
 use Rattle.chooser.specs.Numbers.{from}
 use Rattle.order.specs.Order.{Order}
@@ -55,6 +57,11 @@ pub record Affected (o : Order) : Type 0 where
   pub l-small : o .l < 16
   pub slots-few : o .slots ≤ 3
   pub differs : oldOf o ≢ newOf o
+
+-- by k, then by l, then by the limit: each order before all that follow it
+abbrev pub Sorted : List Order → Type 0
+Sorted [] = Unit {0}
+Sorted (o ∷ os) = ((p : Order) → In p os → before (o .k ∷ o .l ∷ o .slots ∷ []) (p .k ∷ p .l ∷ p .slots ∷ []) ≡ true) × Sorted os
 
 -- the orders whose plan changed
 unfoldable pub changed : List Order → List Order

@@ -10,12 +10,16 @@ use lib.ListN.{length, drop, length-append}
 use Rattle.digits.specs.Limits.{card}
 use Rattle.chooser.specs.Lexicographic.Order.{In}
 use Rattle.order.specs.Order.{Order, readFields}
-use Rattle.changes.specs.Changed.{Affected, orders, changed, orderFields, changedOrders, isRoomy, changesLength, changesBuffer}
+use Rattle.changes.specs.Changed.{Affected, Sorted, orders, changed, orderFields, changedOrders, isRoomy, changesLength, changesBuffer}
 use Rattle.changes.specs.Changed.Listed as Listed
 
 -- an order has a line exactly where its scalars are below 16, its limit is at most 3, and its plan changed
 pub listed-exactly : (o : Order) → In o (changed orders) ↔ Affected o
 listed-exactly = Listed.listed-exactly
+
+-- the lines are sorted by k, l, slots
+pub listed-sorted : Sorted (changed orders)
+listed-sorted = Listed.listed-sorted
 
 -- the first fields of its line are the order as the order program reads it
 pub order-read : (o : Order) → In o (changed orders) → readFields card (orderFields o) ≡ some o

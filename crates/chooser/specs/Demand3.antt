@@ -1,5 +1,5 @@
--- Demand 3, in one place: the cheapest sheet is 01's cheapest, is accepted, keeps the limit, has the additions that its header counts,
--- and nobody can write an accepted sheet for the same scalars within the limit that has fewer. And a column list that keeps the joint
+-- Demand 3, in one place: the cheapest sheet is 01's cheapest, in 02's order of plans, is accepted, keeps the limit, has the additions that
+-- its header counts, and nobody can write an accepted sheet for the same scalars within the limit that has fewer. And a column list that keeps the joint
 -- sparse rules with a non-zero top is the only one for its pair, and the one that the joint call writes. The proofs are in the files that
 -- the answers name; the contracts of `cheapest` and `joint` carry these promises (`Promised`, `JointPromised`).
 use mathlib.Core.Path.{_≡_}

@@ -1,10 +1,11 @@
--- Which orders are in the list: exactly those looked at whose plan changed. And each reads as the order program reads an order.
+-- Which orders are in the list: exactly those looked at whose plan changed, sorted. And each reads as the order program reads an order.
 use mathlib.Core.Path.{_≡_, refl, sym, ap, ap₂, subst, _∙_}
 use mathlib.Core.Logic.{_≢_, _↔_}
 use mathlib.Core.Bool.{Bool, true, false, cond}
 use mathlib.Core.List.{List, [], _∷_, map}
 use mathlib.Core.Option.{some}
 use Prim.Native.Nat.{ℕ, zero, suc, _+_, _*_, _/_, _%_, _^_, _≤_, _<_}
+use native.Mathlib.Decide.{decLt}
 use native.Mathlib.Nat.{le-trans}
 use native.Mathlib.Omega.{arith}
 use borrow.Author.Tests.{leb-true, eqb-true, eq-eqb}
@@ -15,10 +16,11 @@ use Rattle.sheet.specs.declared.Plan.{Plan}
 use Rattle.sheet.specs.declared.Plan.the-variants.{J, I}
 use Rattle.sheet.specs.Numeral.Read.{number-numeral}
 use Rattle.chooser.specs.Cheapest.Lists.{in-map}
-use Rattle.chooser.specs.Lexicographic.Order.{In, here, there}
+use Rattle.chooser.specs.Lexicographic.{before}
+use Rattle.chooser.specs.Lexicographic.Order.{In, here, there, before-less, before-agrees}
 use Rattle.chooser.specs.Numbers.{from}
 use Rattle.order.specs.Order.{Order, readFields}
-use Rattle.changes.specs.Changed.{Affected, orders, oldOf, newOf, samePlan, changed, orderFields}
+use Rattle.changes.specs.Changed.{Affected, Sorted, orders, oldOf, newOf, samePlan, changed, orderFields}
 use Rattle.changes.specs.Body.{orderAt}
 
 -- ── the same plan ───────────────────────────────────────────────────────────────────────────
@@ -70,11 +72,11 @@ in-from a (suc n) zero h = let e : a ≡ a + 0 = omega arith in subst (λ (x : �
 in-from a (suc n) (suc i) h = let e : 1 + a + i ≡ a + suc i = omega arith in subst (λ (x : ℕ). In x (from a (suc n))) e (there (in-from (1 + a) n i (omega arith)))
 
 -- what stands in a list made from numbers is made from one of them
-from-made : {A : Type 0} (f : ℕ → A) (a n : ℕ) {x : A} → In x (map f (from a n)) → (i : ℕ) × (i < a + n) × (x ≡ f i)
+from-made : {A : Type 0} (f : ℕ → A) (a n : ℕ) {x : A} → In x (map f (from a n)) → (i : ℕ) × (a ≤ i) × (i < a + n) × (x ≡ f i)
 unfolding from
 from-made f a zero i = elim i [ ]
-from-made f a (suc n) here = (a, omega arith, refl)
-from-made f a (suc n) (there i) = let (j, h, e) = from-made f (1 + a) n i in (j, omega arith, e)
+from-made f a (suc n) here = (a, omega arith, omega arith, refl)
+from-made f a (suc n) (there i) = let (j, g, h, e) = from-made f (1 + a) n i in (j, omega arith, omega arith, e)
 
 -- one computed test
 pub orders-numbered : map orderAt (from 0 1024) ≡ orders
@@ -91,8 +93,38 @@ in-orders o a b c =
 
 orders-small : {o : Order} → In o orders → (o .k < 16) × (o .l < 16) × (o .slots ≤ 3)
 orders-small {o} i =
-    let (n, h, e) = from-made orderAt 0 1024 (subst (In o) (sym orders-numbered) i) in
+    let (n, g, h, e) = from-made orderAt 0 1024 (subst (In o) (sym orders-numbered) i) in
     (omega (arith, ap (λ (x : Order). x .k) e), omega (arith, ap (λ (x : Order). x .l) e), omega (arith, ap (λ (x : Order). x .slots) e))
+
+-- they are sorted, and so are those of them that changed
+numbered-sorted : (a b : ℕ) → a < b → before (a / 64 ∷ a / 4 % 16 ∷ a % 4 ∷ []) (b / 64 ∷ b / 4 % 16 ∷ b % 4 ∷ []) ≡ true
+numbered-sorted a b h = go (decLt (a / 64) (b / 64)) (decLt (a / 4 % 16) (b / 4 % 16))
+  where
+    go : Dec (a / 64 < b / 64) → Dec (a / 4 % 16 < b / 4 % 16) → before (a / 64 ∷ a / 4 % 16 ∷ a % 4 ∷ []) (b / 64 ∷ b / 4 % 16 ∷ b % 4 ∷ []) ≡ true
+    go (yes k) l = before-less _ _ _ _ k
+    go (no k) (yes l) = before-agrees _ _ _ _ (omega arith) ∙ before-less _ _ _ _ l
+    go (no k) (no l) = before-agrees _ _ _ _ (omega arith) ∙ before-agrees _ _ _ _ (omega arith) ∙ before-less _ _ _ _ (omega arith)
+
+from-sorted : (a n : ℕ) → Sorted (map orderAt (from a n))
+unfolding from
+from-sorted a zero = tt
+from-sorted a (suc n) = (
+  λ p i. let (j, g, h, e) = from-made orderAt (1 + a) n i in
+      subst (λ (x : Order). before (a / 64 ∷ a / 4 % 16 ∷ a % 4 ∷ []) (x .k ∷ x .l ∷ x .slots ∷ []) ≡ true) (sym e) (numbered-sorted a j (omega arith)),
+  from-sorted (1 + a) n,
+)
+
+sorted-changed : (os : List Order) → Sorted os → Sorted (changed os)
+unfolding changed
+sorted-changed [] s = tt
+sorted-changed (o ∷ os) s = go (samePlan (oldOf o) (newOf o)) (sorted-changed os (s .1))
+  where
+    go : (t : Bool) → Sorted (changed os) → Sorted (cond t (changed os) (o ∷ changed os))
+    go true r = r
+    go false r = (λ p i. s .0 p (changed-in os i .0), r)
+
+pub listed-sorted : Sorted (changed orders)
+listed-sorted = sorted-changed orders (subst Sorted orders-numbered (from-sorted 0 1024))
 
 -- an order has a line exactly where it is looked at and its plan changed
 pub listed-exactly : (o : Order) → In o (changed orders) ↔ Affected o
