@@ -1,6 +1,6 @@
 -- The additions that the sheet calls tell, and what looking at the seven plans comes to.
 use mathlib.Core.Path.{_≡_, refl, ap, _∙_}
-use mathlib.Core.Bool.{Bool, true, false, _&&_, cond}
+use mathlib.Core.Bool.{true, _&&_}
 use mathlib.Core.List.{List, [], _∷_}
 use Prim.Native.Nat.{ℕ, _≤_}
 use native.Mathlib.Omega.{arith}
@@ -10,17 +10,15 @@ use Rattle.digits.specs.Limits.{card}
 use Rattle.digits.specs.Scalar.{scalar, sized}
 use Rattle.sheet.specs.declared.Plan.{Plan}
 use Rattle.sheet.specs.declared.Plan.the-variants.{J, I}
-use Rattle.sheet.specs.Plan.{isWithin}
 use Rattle.sheet.specs.Questions.Planned.{of-window}
 use Rattle.written.specs.Valid.{Valid, forI}
 use Rattle.written.specs.Written.{writtenAdditions}
 use Rattle.writer.specs.Call.{additions, roomy, jAnswer, iAnswer}
 use Rattle.writer.specs.declared.answer.Sheet.{Sheet}
 use Rattle.chooser.specs.declared.choice.Candidate.{Candidate}
-use Rattle.chooser.specs.Candidate.{either}
-use Rattle.chooser.specs.Candidate.Turns.{Stands, either-better}
+use Rattle.chooser.specs.Candidate.Turns.{Stands, next-better, take-one}
 use Rattle.chooser.specs.Cheapest.{within}
-use Rattle.chooser.specs.Lexicographic.{better, least}
+use Rattle.chooser.specs.Lexicographic.{least}
 use Rattle.changes.specs.Body.{oldCost, oldBetter}
 use Rattle.changes.specs.Changed.{oldPlan}
 use Rattle.changes.specs.Changed.Old.{few, oldCostKey, old-few}
@@ -58,16 +56,10 @@ looked-least : (k l limit : ℕ) (best : Candidate) (ps : List Plan) → Stands 
 unfolding looked within least
 looked-least k l limit best [] s = refl
 looked-least k l limit best (p ∷ ps) s =
-    let e = either-better (oldCostKey k l) best p (oldCost k l p) s refl in
-    go (isWithin p limit)
-    (looked-least k l limit (either best p (oldCost k l p)) ps (e .1) ∙ ap (λ (q : Plan). least (oldCostKey k l) q (within limit ps)) (e .0))
-    (looked-least k l limit best ps s)
-  where
-    go : (t : Bool) → looked k l limit (either best p (oldCost k l p)) ps .plan ≡ least (oldCostKey k l) (better (oldCostKey k l) (best .plan) p) (within limit ps)
-        → looked k l limit best ps .plan ≡ least (oldCostKey k l) (best .plan) (within limit ps)
-        → looked k l limit (cond t (either best p (oldCost k l p)) best) ps .plan ≡ least (oldCostKey k l) (best .plan) (cond t (p ∷ within limit ps) (within limit ps))
-    go true e f = e
-    go false e f = f
+    let r = next-better (oldCostKey k l) limit best p (oldCost k l p) s refl in
+    looked-least k l limit (oldBetter k l limit best p) ps (r .1)
+    ∙ ap (λ (q : Plan). least (oldCostKey k l) q (within limit ps)) (r .0)
+    ∙ take-one (oldCostKey k l) limit (best .plan) p ps
 
 -- for a limit of at most 3 it is the old plan
 pub looked-old : (k l limit : ℕ) → limit ≤ 3 → looked k l limit (record { plan = I 1 1; cost = oldCost k l (I 1 1) }) few .plan ≡ oldPlan k l limit

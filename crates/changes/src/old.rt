@@ -45,7 +45,7 @@ fn better_of(best: Candidate, plan: Plan, k: &[u8], l: &[u8], limit: u32) -> Can
     best
 }
 
-// The cheapest plan by the old order, for a limit of at most 3: no other plan needs so few.
+// The cheapest plan by the old order, for a limit of at most 3: these are the plans that three slots let in.
 pub fn old_plan(k: &[u8], l: &[u8], limit: u32) -> Plan
     requires { ⌜ (sized card (now k) && sized card (now l) ≡ true) × (limit ≤ 3) ⌝ }
     ensures { λ r. ⌜ r ≡ oldPlan (scalar (now (k .entry))) (scalar (now (l .entry))) limit ⌝ }

@@ -26,6 +26,16 @@ module _ (f : Plan → List ℕ) where
       go true = (refl, record { stands = e })
       go false = (refl, s)
 
+  -- a plan that may need more slots than the limit
+  pub next-better : (limit : ℕ) (best : Candidate) (p : Plan) (c : Cost) → Stands best → keyOf c ≡ f p
+      → (cond (isWithin p limit) (either best p c) best .plan ≡ cond (isWithin p limit) (better f (best .plan) p) (best .plan))
+      × Stands (cond (isWithin p limit) (either best p c) best)
+  next-better limit best p c s e = go (isWithin p limit)
+    where
+      go : (t : Bool) → (cond t (either best p c) best .plan ≡ cond t (better f (best .plan) p) (best .plan)) × Stands (cond t (either best p c) best)
+      go true = either-better best p c s e
+      go false = (refl, s)
+
   -- the least of the plans left is that with one plan more looked at
   pub take-one : (limit : ℕ) (best p : Plan) (ps : List Plan) → least f (cond (isWithin p limit) (better f best p) best) (within limit ps) ≡ least f best (within limit (p ∷ ps))
   unfolding within least
