@@ -14,13 +14,13 @@ enum { PAIRS = INPUTS, MOST_BYTES = 66, UNTOUCHED = 0xaa };
 /* ---- both sides ---- */
 
 struct calls {
-    uint64_t (*row)(const uint8_t *, size_t, uint32_t, uint8_t *, size_t);
-    uint64_t (*joint)(const uint8_t *, size_t, const uint8_t *, size_t, uint8_t *, size_t, uint8_t *, size_t);
-    uint64_t (*joint_codes)(const uint8_t *, size_t, const uint8_t *, size_t, uint8_t *, size_t, uint8_t *, size_t, uint8_t *, size_t,
-                            uint8_t *, size_t);
-    uint64_t (*plan_j)(const uint8_t *, size_t, const uint8_t *, size_t, uint8_t *, size_t);
-    uint64_t (*plan_i)(const uint8_t *, size_t, const uint8_t *, size_t, uint32_t, uint32_t, uint8_t *, size_t);
-    uint64_t (*cheapest)(const uint8_t *, size_t, const uint8_t *, size_t, uint32_t, uint8_t *, size_t);
+    uint64_t (*row)(const uint8_t *, size_t, uint32_t, uint32_t, uint8_t *, size_t);
+    uint64_t (*joint)(const uint8_t *, size_t, uint32_t, const uint8_t *, size_t, uint32_t, uint8_t *, size_t, uint8_t *, size_t);
+    uint64_t (*joint_codes)(const uint8_t *, size_t, uint32_t, const uint8_t *, size_t, uint32_t, uint8_t *, size_t, uint8_t *, size_t,
+                            uint8_t *, size_t, uint8_t *, size_t);
+    uint64_t (*plan_j)(const uint8_t *, size_t, uint32_t, const uint8_t *, size_t, uint32_t, uint8_t *, size_t);
+    uint64_t (*plan_i)(const uint8_t *, size_t, uint32_t, const uint8_t *, size_t, uint32_t, uint32_t, uint32_t, uint8_t *, size_t);
+    uint64_t (*cheapest)(const uint8_t *, size_t, uint32_t, const uint8_t *, size_t, uint32_t, uint32_t, uint8_t *, size_t);
     uint64_t (*read)(const uint8_t *, size_t);
 };
 
@@ -31,9 +31,10 @@ static const struct calls plain_c = {peer_row, peer_joint, peer_joint_codes, pee
 
 /* ---- inputs and outputs ---- */
 
-/* Pairs of scalars of one length, and a sheet of each, one behind the other. */
+/* Pairs of scalars of one length and with the same two signs, and a sheet of each, one behind the other. */
 struct inputs {
     size_t bytes;
+    uint32_t ks, ls;
     uint8_t k[PAIRS][MOST_BYTES], l[PAIRS][MOST_BYTES];
     uint8_t sheets[PAIRS * SHEETS_BYTES];
     size_t start[PAIRS + 1];
@@ -69,7 +70,7 @@ struct work {
 
 static uint64_t row(const struct calls *c, const struct work *w, const struct inputs *in, size_t i, struct output *out)
 {
-    return c->row(in->k[i], in->bytes, w->a, out->k_digits, SHEETS_PLACES(in->bytes));
+    return c->row(in->k[i], in->bytes, in->ks, w->a, out->k_digits, SHEETS_PLACES(in->bytes));
 }
 
 static uint64_t joint(const struct calls *c, const struct work *w, const struct inputs *in, size_t i, struct output *out)
@@ -77,7 +78,7 @@ static uint64_t joint(const struct calls *c, const struct work *w, const struct 
     size_t places = SHEETS_PLACES(in->bytes);
 
     (void)w;
-    return c->joint(in->k[i], in->bytes, in->l[i], in->bytes, out->k_digits, places, out->l_digits, places);
+    return c->joint(in->k[i], in->bytes, in->ks, in->l[i], in->bytes, in->ls, out->k_digits, places, out->l_digits, places);
 }
 
 static uint64_t joint_codes(const struct calls *c, const struct work *w, const struct inputs *in, size_t i, struct output *out)
@@ -85,24 +86,24 @@ static uint64_t joint_codes(const struct calls *c, const struct work *w, const s
     size_t places = SHEETS_PLACES(in->bytes);
 
     (void)w;
-    return c->joint_codes(in->k[i], in->bytes, in->l[i], in->bytes, out->k_digits, places, out->l_digits, places, out->k_codes, places,
-                          out->l_codes, places);
+    return c->joint_codes(in->k[i], in->bytes, in->ks, in->l[i], in->bytes, in->ls, out->k_digits, places, out->l_digits, places,
+                          out->k_codes, places, out->l_codes, places);
 }
 
 static uint64_t plan_j(const struct calls *c, const struct work *w, const struct inputs *in, size_t i, struct output *out)
 {
     (void)w;
-    return c->plan_j(in->k[i], in->bytes, in->l[i], in->bytes, out->sheet, SHEETS_BYTES);
+    return c->plan_j(in->k[i], in->bytes, in->ks, in->l[i], in->bytes, in->ls, out->sheet, SHEETS_BYTES);
 }
 
 static uint64_t plan_i(const struct calls *c, const struct work *w, const struct inputs *in, size_t i, struct output *out)
 {
-    return c->plan_i(in->k[i], in->bytes, in->l[i], in->bytes, w->a, w->b, out->sheet, SHEETS_BYTES);
+    return c->plan_i(in->k[i], in->bytes, in->ks, in->l[i], in->bytes, in->ls, w->a, w->b, out->sheet, SHEETS_BYTES);
 }
 
 static uint64_t cheapest(const struct calls *c, const struct work *w, const struct inputs *in, size_t i, struct output *out)
 {
-    return c->cheapest(in->k[i], in->bytes, in->l[i], in->bytes, w->a, out->sheet, SHEETS_BYTES);
+    return c->cheapest(in->k[i], in->bytes, in->ks, in->l[i], in->bytes, in->ls, w->a, out->sheet, SHEETS_BYTES);
 }
 
 static uint64_t read_sheet(const struct calls *c, const struct work *w, const struct inputs *in, size_t i, struct output *out)
@@ -152,9 +153,24 @@ static void check(const struct work *w, const struct inputs *in)
         memset(&theirs, UNTOUCHED, sizeof theirs);
         if (w->call(&library, w, in, i, &ours) != w->call(&plain_c, w, in, i, &theirs)
             || memcmp(&ours, &theirs, sizeof ours) != 0) {
-            fprintf(stderr, "%s, %zu bytes: library and plain C differ on pair %zu\n", w->name, in->bytes, i);
+            fprintf(stderr, "%s, %zu bytes, signs %u and %u: library and plain C differ on pair %zu\n", w->name, in->bytes,
+                    (unsigned)in->ks, (unsigned)in->ls, i);
             exit(1);
         }
+    }
+}
+
+/* The check with a minus in k, in l and in both, and last with plus, which leaves the inputs for the times. */
+static void check_signs(const struct work *w, struct inputs *in, struct output *out)
+{
+    static const uint32_t signs[][2] = {{1, 0}, {0, 2}, {256, UINT32_MAX}, {0, 0}};
+
+    for (size_t i = 0; i < sizeof signs / sizeof *signs; i++) {
+        in->ks = signs[i][0];
+        in->ls = signs[i][1];
+        if (w->writes)
+            fill_sheets(in, w->writes, out);
+        check(w, in);
     }
 }
 
@@ -194,9 +210,7 @@ int main(void)
     for (size_t i = 0; i < sizeof works / sizeof *works; i++)
         for (size_t j = 0; j < sizeof lengths / sizeof *lengths; j++) {
             fill_scalars(&in, lengths[j]);
-            if (works[i].writes)
-                fill_sheets(&in, works[i].writes, &out);
-            check(&works[i], &in);
+            check_signs(&works[i], &in, &out);
             measure(&works[i], &in, &out);
         }
     print_wnaf();

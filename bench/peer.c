@@ -47,10 +47,11 @@ static size_t larger(size_t a, size_t b)
 
 /* ---- scalars as bits ---- */
 
-/* A scalar's words, the least significant first, a word of zeros above them, and its bit length. */
+/* A scalar's words, the least significant first, a word of zeros above them, its bit length, and whether it is below zero. */
 struct bits {
     uint64_t word[WORDS + 1];
     unsigned length;
+    int negative;
 };
 
 static unsigned bit_length(const uint64_t *word)
@@ -61,13 +62,14 @@ static unsigned bit_length(const uint64_t *word)
     return 0;
 }
 
-static struct bits bits_of(const uint8_t *bytes, size_t n)
+static struct bits bits_of(const uint8_t *bytes, size_t n, uint32_t sign)
 {
-    struct bits b = {{0}, 0};
+    struct bits b = {{0}, 0, 0};
 
     for (size_t i = 0; i < n; i++)
         b.word[i / 8] |= (uint64_t)bytes[n - 1 - i] << 8 * (i % 8);
     b.length = bit_length(b.word);
+    b.negative = sign != 0 && b.length > 0;
     return b;
 }
 
@@ -103,7 +105,16 @@ static unsigned size_of(int digit)
     return (unsigned)(digit < 0 ? -digit : digit);
 }
 
-/* Writes a row into places that hold 0. The remainder at a place is the bits from there on, and the carry. */
+/* The row of a negative scalar, from that of its bits. */
+static void negate(const struct bits *b, uint8_t *digits, unsigned places)
+{
+    if (!b->negative)
+        return;
+    for (unsigned i = 0; i < places; i++)
+        digits[i] = (uint8_t)-digits[i];
+}
+
+/* Writes the row of the bits into places that hold 0. The remainder at a place is the bits from there on, and the carry. */
 static struct recoded recode_row(const struct bits *b, unsigned m, uint8_t *digits)
 {
     struct recoded row = {0, 0};
@@ -160,7 +171,10 @@ static unsigned carry_of(uint64_t bits, unsigned carry, int digit)
     return (unsigned)((int)(bits & 1) + (int)carry - digit) / 2;
 }
 
-/* Writes joint columns, two rows, into places that hold 0; and their codes, unless k_codes is NULL, which each caller settles. */
+/*
+ * Writes the joint columns of the bits, two rows, into places that hold 0; and their codes, unless k_codes is NULL, which each caller
+ * settles. The codes are the same with any sign.
+ */
 static inline __attribute__((always_inline)) struct recoded recode_columns(const struct bits *k, const struct bits *l,
                                                                            uint8_t *k_digits, uint8_t *l_digits,
                                                                            uint8_t *k_codes, uint8_t *l_codes)
@@ -209,8 +223,9 @@ static uint64_t answer(struct recoded r)
     return written(r.places, r.weight);
 }
 
-uint64_t peer_row(const uint8_t *scalar, size_t n, uint32_t m, uint8_t *digits, size_t places)
+uint64_t peer_row(const uint8_t *scalar, size_t n, uint32_t sign, uint32_t m, uint8_t *digits, size_t places)
 {
+    struct recoded row;
     struct bits b;
 
     if (!is_scalar(n))
@@ -219,30 +234,38 @@ uint64_t peer_row(const uint8_t *scalar, size_t n, uint32_t m, uint8_t *digits, 
         return refusal(2, 0);
     if (places < 8 * n + 1)
         return refusal(3, 0);
-    b = bits_of(scalar, n);
+    b = bits_of(scalar, n, sign);
     memset(digits, 0, places);
-    return answer(recode_row(&b, m, digits));
+    row = recode_row(&b, m, digits);
+    negate(&b, digits, row.places);
+    return answer(row);
 }
 
-uint64_t peer_joint(const uint8_t *k, size_t kn, const uint8_t *l, size_t ln, uint8_t *k_digits, size_t k_places,
-                    uint8_t *l_digits, size_t l_places)
+uint64_t peer_joint(const uint8_t *k, size_t kn, uint32_t ks, const uint8_t *l, size_t ln, uint32_t ls, uint8_t *k_digits,
+                    size_t k_places, uint8_t *l_digits, size_t l_places)
 {
+    struct recoded joint;
     struct bits kb, lb;
 
     if (!is_scalar(kn) || !is_scalar(ln))
         return refusal(1, 0);
     if (k_places < 8 * larger(kn, ln) + 1 || l_places < 8 * larger(kn, ln) + 1)
         return refusal(3, 0);
-    kb = bits_of(k, kn);
-    lb = bits_of(l, ln);
+    kb = bits_of(k, kn, ks);
+    lb = bits_of(l, ln, ls);
     memset(k_digits, 0, k_places);
     memset(l_digits, 0, l_places);
-    return answer(recode_joint(&kb, &lb, k_digits, l_digits));
+    joint = recode_joint(&kb, &lb, k_digits, l_digits);
+    negate(&kb, k_digits, joint.places);
+    negate(&lb, l_digits, joint.places);
+    return answer(joint);
 }
 
-uint64_t peer_joint_codes(const uint8_t *k, size_t kn, const uint8_t *l, size_t ln, uint8_t *k_digits, size_t k_places,
-                          uint8_t *l_digits, size_t l_places, uint8_t *k_codes, size_t k_room, uint8_t *l_codes, size_t l_room)
+uint64_t peer_joint_codes(const uint8_t *k, size_t kn, uint32_t ks, const uint8_t *l, size_t ln, uint32_t ls, uint8_t *k_digits,
+                          size_t k_places, uint8_t *l_digits, size_t l_places, uint8_t *k_codes, size_t k_room, uint8_t *l_codes,
+                          size_t l_room)
 {
+    struct recoded joint;
     struct bits kb, lb;
     size_t least;
 
@@ -251,13 +274,16 @@ uint64_t peer_joint_codes(const uint8_t *k, size_t kn, const uint8_t *l, size_t 
     least = 8 * larger(kn, ln) + 1;
     if (k_places < least || l_places < least || k_room < least || l_room < least)
         return refusal(3, 0);
-    kb = bits_of(k, kn);
-    lb = bits_of(l, ln);
+    kb = bits_of(k, kn, ks);
+    lb = bits_of(l, ln, ls);
     memset(k_digits, 0, k_places);
     memset(l_digits, 0, l_places);
     memset(k_codes, 0, k_room);
     memset(l_codes, 0, l_room);
-    return answer(recode_columns(&kb, &lb, k_digits, l_digits, k_codes, l_codes));
+    joint = recode_columns(&kb, &lb, k_digits, l_digits, k_codes, l_codes);
+    negate(&kb, k_digits, joint.places);
+    negate(&lb, l_digits, joint.places);
+    return answer(joint);
 }
 
 /* ---- plans ---- */
@@ -358,6 +384,8 @@ static uint8_t *put_scalar(uint8_t *p, const struct bits *b)
     static const char figures[] = "0123456789abcdef";
     unsigned i = (b->length + 3) / 4;
 
+    if (b->negative)
+        *p++ = '-';
     if (i == 0)
         *p++ = '0';
     while (i-- > 0)
@@ -436,7 +464,7 @@ static uint8_t *put_places(uint8_t *p, int joint, const uint8_t *k_digits, const
     return p;
 }
 
-/* The digits of both scalars by a plan, into places that hold 0. */
+/* The digits of both scalars' bits by a plan, into places that hold 0. */
 static struct recoded recode_plan(struct plan plan, const struct bits *k, const struct bits *l, uint8_t *k_digits,
                                   uint8_t *l_digits)
 {
@@ -454,13 +482,16 @@ static uint64_t write_sheet(struct plan plan, const struct bits *k, const struct
     unsigned doublings = table_doublings(plan) + less_one(r.places);
     uint8_t *p = put_header(sheet, plan, additions, doublings, k, l);
 
+    negate(k, k_digits, r.places);
+    negate(l, l_digits, r.places);
     p = put_tables(p, plan);
     p = put_places(p, plan.joint, k_digits, l_digits, r.places);
     p = put_letter(p, 'E');
     return written((size_t)(p - sheet), additions);
 }
 
-uint64_t peer_plan_j(const uint8_t *k, size_t kn, const uint8_t *l, size_t ln, uint8_t *sheet, size_t room)
+uint64_t peer_plan_j(const uint8_t *k, size_t kn, uint32_t ks, const uint8_t *l, size_t ln, uint32_t ls, uint8_t *sheet,
+                     size_t room)
 {
     struct bits kb, lb;
 
@@ -468,13 +499,13 @@ uint64_t peer_plan_j(const uint8_t *k, size_t kn, const uint8_t *l, size_t ln, u
         return refusal(1, 0);
     if (room < SHEET_BYTES)
         return refusal(3, 0);
-    kb = bits_of(k, kn);
-    lb = bits_of(l, ln);
+    kb = bits_of(k, kn, ks);
+    lb = bits_of(l, ln, ls);
     return write_sheet(plan_j(), &kb, &lb, sheet);
 }
 
-uint64_t peer_plan_i(const uint8_t *k, size_t kn, const uint8_t *l, size_t ln, uint32_t m1, uint32_t m2, uint8_t *sheet,
-                     size_t room)
+uint64_t peer_plan_i(const uint8_t *k, size_t kn, uint32_t ks, const uint8_t *l, size_t ln, uint32_t ls, uint32_t m1, uint32_t m2,
+                     uint8_t *sheet, size_t room)
 {
     struct bits kb, lb;
 
@@ -484,8 +515,8 @@ uint64_t peer_plan_i(const uint8_t *k, size_t kn, const uint8_t *l, size_t ln, u
         return refusal(2, 0);
     if (room < SHEET_BYTES)
         return refusal(3, 0);
-    kb = bits_of(k, kn);
-    lb = bits_of(l, ln);
+    kb = bits_of(k, kn, ks);
+    lb = bits_of(l, ln, ls);
     return write_sheet(plan_i(m1, m2), &kb, &lb, sheet);
 }
 
@@ -546,7 +577,8 @@ static struct plan choose(const struct recoded *k_rows, const struct recoded *l_
     return best;
 }
 
-uint64_t peer_cheapest(const uint8_t *k, size_t kn, const uint8_t *l, size_t ln, uint32_t limit, uint8_t *sheet, size_t room)
+uint64_t peer_cheapest(const uint8_t *k, size_t kn, uint32_t ks, const uint8_t *l, size_t ln, uint32_t ls, uint32_t limit,
+                       uint8_t *sheet, size_t room)
 {
     struct recoded k_rows[WINDOWS], l_rows[WINDOWS], joint = {0, 0};
     struct bits kb, lb;
@@ -557,8 +589,8 @@ uint64_t peer_cheapest(const uint8_t *k, size_t kn, const uint8_t *l, size_t ln,
         return refusal(4, 0);
     if (room < SHEET_BYTES)
         return refusal(3, 0);
-    kb = bits_of(k, kn);
-    lb = bits_of(l, ln);
+    kb = bits_of(k, kn, ks);
+    lb = bits_of(l, ln, ls);
     measure_rows(&kb, limit, k_rows);
     measure_rows(&lb, limit, l_rows);
     if (JOINT_SLOTS <= limit)
@@ -567,6 +599,12 @@ uint64_t peer_cheapest(const uint8_t *k, size_t kn, const uint8_t *l, size_t ln,
 }
 
 /* ---- the reader ---- */
+
+/* A scalar of the header. */
+struct signed_words {
+    uint64_t word[WORDS];
+    int negative;
+};
 
 /*
  * The place on the sheet, the line there, and the first line that misses each of the questions 7 to 9; 0 where none does.
@@ -578,7 +616,7 @@ struct reader {
     unsigned line, off_plan, disallowed, excess;
     struct plan plan;
     unsigned slots, additions, doublings;
-    uint64_t k[WORDS], l[WORDS];
+    struct signed_words k, l;
     unsigned tables, turn, doubles, place, counted_additions, counted_doublings;
     int64_t p[LIMBS], q[LIMBS];
 };
@@ -633,19 +671,20 @@ static unsigned figure_of(uint8_t byte)
     return letter < 6 ? letter + 10 : figure;
 }
 
-static int take_scalar(struct reader *r, uint64_t *word)
+static int take_scalar(struct reader *r, struct signed_words *scalar)
 {
     uint8_t figures[MOST_FIGURES];
     unsigned n = 0, figure;
 
+    scalar->negative = take_byte(r, '-');
     while (r->at < r->end && n < MOST_FIGURES && (figure = figure_of(*r->at)) < 16) {
         figures[n++] = (uint8_t)figure;
         r->at++;
     }
-    if (n == 0 || (n > 1 && figures[0] == 0))
+    if (n == 0 || ((n > 1 || scalar->negative) && figures[0] == 0))
         return 0;
     for (unsigned i = 0; i < n; i++)
-        word[i / 16] |= (uint64_t)figures[n - 1 - i] << 4 * (i % 16);
+        scalar->word[i / 16] |= (uint64_t)figures[n - 1 - i] << 4 * (i % 16);
     return 1;
 }
 
@@ -664,7 +703,7 @@ static int take_header(struct reader *r)
 {
     return take_byte(r, 'S') && take_byte(r, ',') && take_kind(r) && take_byte(r, ',') && take_field(r, &r->plan.m1)
         && take_field(r, &r->plan.m2) && take_field(r, &r->slots) && take_field(r, &r->additions)
-        && take_field(r, &r->doublings) && take_scalar(r, r->k) && take_byte(r, ',') && take_scalar(r, r->l)
+        && take_field(r, &r->doublings) && take_scalar(r, &r->k) && take_byte(r, ',') && take_scalar(r, &r->l)
         && take_byte(r, '\n');
 }
 
@@ -845,14 +884,14 @@ static int take_sheet(struct reader *r)
     return take_tables(r) && take_steps(r) && take_end(r);
 }
 
-/* Whether the sum is the scalar, once its carries are taken. */
-static int is_sum(const int64_t *limb, const uint64_t *word)
+/* Whether the sum, negated for a negative scalar, has the scalar's words, once its carries are taken. */
+static int is_sum(const int64_t *limb, const struct signed_words *scalar)
 {
-    int64_t carry = 0;
+    int64_t carry = 0, sign = scalar->negative ? -1 : 1;
 
     for (unsigned i = 0; i < LIMBS; i++) {
-        int64_t sum = limb[i] + carry;
-        uint64_t wanted = i / 2 < WORDS ? word[i / 2] >> LIMB_BITS * (i % 2) : 0;
+        int64_t sum = sign * limb[i] + carry;
+        uint64_t wanted = i / 2 < WORDS ? scalar->word[i / 2] >> LIMB_BITS * (i % 2) : 0;
 
         if ((uint32_t)sum != (uint32_t)wanted)
             return 0;
@@ -877,7 +916,7 @@ uint64_t peer_read(const uint8_t *sheet, size_t n)
         return refusal(9, r.excess);
     if (r.additions != r.counted_additions || r.doublings != r.counted_doublings)
         return refusal(10, 1);
-    if (!is_sum(r.p, r.k) || !is_sum(r.q, r.l))
+    if (!is_sum(r.p, &r.k) || !is_sum(r.q, &r.l))
         return refusal(11, 1);
     return 0;
 }

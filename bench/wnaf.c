@@ -35,7 +35,7 @@ static uint32_t window(int w)
 
 static size_t row(size_t i, int w)
 {
-    return sheets_length(sheets_row(held.scalars[i], held.bytes, window(w), held.digits, SHEETS_PLACES(held.bytes)));
+    return sheets_length(sheets_row(held.scalars[i], held.bytes, 0, window(w), held.digits, SHEETS_PLACES(held.bytes)));
 }
 
 static int digit(size_t place)

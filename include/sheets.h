@@ -2,7 +2,9 @@
  * Double-and-add sheets for kP + lQ: the calls for a host program in C on x86-64 Linux. Link with libsheets.a, by what
  * `pkg-config --cflags --libs sheets` says.
  *
- * Scalars are unsigned numbers of 1 to 66 bytes, the most significant byte first; leading zero bytes and zero are allowed.
+ * A scalar has 1 to 66 bytes, the most significant byte first, and behind their number its sign: 0 for plus, any other number for minus.
+ * Leading zero bytes and zero are allowed; zero with a minus is zero. With a minus each digit of the scalar's row is negated, and a sheet's
+ * header has a minus before its figures. The places of a row, weights, codes, additions and the plan chosen are the same with any sign.
  * Digits are one byte each in two's complement, the least significant place (place 0) first; a digit buffer may be read as int8_t.
  * Sheets are ASCII lines, each ended by a line feed, with no byte 0 behind the last.
  *
@@ -42,14 +44,14 @@ extern "C" {
  * The row of a scalar for the window m. Questions 1, 2, 3. The length is the number of places, at most 529, and the weight the number of
  * digits that are not 0; the places above the length hold 0, up to the end of the buffer.
  */
-uint64_t sheets_row(const uint8_t *scalar, size_t n, uint32_t m, uint8_t *digits, size_t places);
+uint64_t sheets_row(const uint8_t *scalar, size_t n, uint32_t sign, uint32_t m, uint8_t *digits, size_t places);
 
 /*
  * The joint sparse form of k and l, a row into each buffer. Questions 1, 3. The length is the number of columns, at most 529, and the
  * weight the number of columns of which a digit is not 0; in both buffers the places above the length hold 0.
  */
-uint64_t sheets_joint(const uint8_t *k, size_t kn, const uint8_t *l, size_t ln, uint8_t *k_digits, size_t k_places, uint8_t *l_digits,
-                      size_t l_places);
+uint64_t sheets_joint(const uint8_t *k, size_t kn, uint32_t ks, const uint8_t *l, size_t ln, uint32_t ls, uint8_t *k_digits, size_t k_places,
+                      uint8_t *l_digits, size_t l_places);
 
 /*
  * The same, and beside each row the rule behind each of its digits, a code to a byte. The remainder at a place is the scalar less its
@@ -57,24 +59,27 @@ uint64_t sheets_joint(const uint8_t *k, size_t kn, const uint8_t *l, size_t ln, 
  * taken as 1 or -1; 2 where the sign of that is turned: the remainder is 3 or 5 modulo 8, and the other scalar's is 2 modulo 4. Questions
  * 1, 3, and then 3 of the code buffers, which need as many places as the digit buffers. The places above the length hold 0 in all four.
  */
-uint64_t sheets_joint_codes(const uint8_t *k, size_t kn, const uint8_t *l, size_t ln, uint8_t *k_digits, size_t k_places,
-                            uint8_t *l_digits, size_t l_places, uint8_t *k_codes, size_t k_room, uint8_t *l_codes, size_t l_room);
+uint64_t sheets_joint_codes(const uint8_t *k, size_t kn, uint32_t ks, const uint8_t *l, size_t ln, uint32_t ls, uint8_t *k_digits,
+                            size_t k_places, uint8_t *l_digits, size_t l_places, uint8_t *k_codes, size_t k_room, uint8_t *l_codes,
+                            size_t l_room);
 
 /*
  * The sheet of plan J. Questions 1, 3. The length is the sheet's, in bytes, at most 16,384, and the additions are those that its header
  * states; the bytes behind it stay as lent. So too for the next two calls.
  */
-uint64_t sheets_plan_j(const uint8_t *k, size_t kn, const uint8_t *l, size_t ln, uint8_t *sheet, size_t room);
+uint64_t sheets_plan_j(const uint8_t *k, size_t kn, uint32_t ks, const uint8_t *l, size_t ln, uint32_t ls, uint8_t *sheet, size_t room);
 
 /* The sheet of plan I with the windows m1 for P and m2 for Q. Questions 1, 2, 3. */
-uint64_t sheets_plan_i(const uint8_t *k, size_t kn, const uint8_t *l, size_t ln, uint32_t m1, uint32_t m2, uint8_t *sheet, size_t room);
+uint64_t sheets_plan_i(const uint8_t *k, size_t kn, uint32_t ks, const uint8_t *l, size_t ln, uint32_t ls, uint32_t m1, uint32_t m2,
+                       uint8_t *sheet, size_t room);
 
 /*
  * The cheapest sheet over plan J and all plans I that need no more slots than the limit: fewest additions; then fewest doublings; then fewest
  * slots; then J before I; then smaller m1. Questions 1, 4, 3. Plan J needs 2 slots, plan I (m1 + m2 - 2) / 2 for the multiples that it stores,
  * and 1 for the double of P, and later of Q, if m1 or m2 is 3 or more.
  */
-uint64_t sheets_cheapest(const uint8_t *k, size_t kn, const uint8_t *l, size_t ln, uint32_t limit, uint8_t *sheet, size_t room);
+uint64_t sheets_cheapest(const uint8_t *k, size_t kn, uint32_t ks, const uint8_t *l, size_t ln, uint32_t ls, uint32_t limit, uint8_t *sheet,
+                         size_t room);
 
 /*
  * Judges a sheet, whatever its n bytes are: 0 if it is accepted for the scalars of its header; else the number of the question missed
@@ -87,7 +92,7 @@ uint64_t sheets_cheapest(const uint8_t *k, size_t kn, const uint8_t *l, size_t l
  *    8   is each step allowed by the plan? Its line.
  *    9   are there at most 528 D lines? The 529th.
  *   10   are both counts true? Line 1.
- *   11   is the result (k, l)? Line 1.
+ *   11   is the result (k, l), each with its sign? Line 1.
  */
 uint64_t sheets_read(const uint8_t *sheet, size_t n);
 

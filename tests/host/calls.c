@@ -1,6 +1,6 @@
 /*
  * Calls every function of sheets.h with good and bad input, and checks the answers and every byte of the buffers: against the samples
- * of the scope document, and for other scalars by reading the digits back and counting those that are not 0.
+ * of the scope document, and for other scalars by reading the digits back and counting those that are not 0; with every pair of signs.
  */
 #include "sheets.h"
 
@@ -73,11 +73,12 @@ struct bytes {
     uint8_t *at;   /* what is handed in; NULL if there are none */
     uint8_t *copy; /* the same again, to see that they are only read */
     size_t n;
+    uint32_t sign; /* of a scalar: 0 for plus, any other number for minus */
 };
 
 static struct bytes bytes_of(const uint8_t *from, size_t n)
 {
-    struct bytes b = {NULL, NULL, n};
+    struct bytes b = {NULL, NULL, n, 0};
     if (n > 0) {
         b.at = malloc(n);
         b.copy = malloc(n);
@@ -105,6 +106,19 @@ static struct bytes text(const char *s) { return bytes_of((const uint8_t *)s, st
 
 /* A scalar of one byte. */
 static struct bytes byte(uint8_t value) { return bytes_of(&value, 1); }
+
+/* A scalar with another sign. */
+static struct bytes with_sign(struct bytes scalar, uint32_t sign)
+{
+    scalar.sign = sign;
+    return scalar;
+}
+
+static struct bytes minus(struct bytes scalar) { return with_sign(scalar, 1); }
+
+/* Plus, and numbers that are all minus. */
+static const uint32_t signs[] = {0, 1, 2, 256, 65536, 2147483648u, 4294967295u};
+enum { SIGNS = sizeof signs / sizeof *signs };
 
 /* A scalar whose row for window 1 is as heavy as any: it has a digit that is not 0 at every second place, from place 0 to place 528. */
 static struct bytes heavy(void)
@@ -135,14 +149,15 @@ static uint32_t next_number(void)
     return state;
 }
 
+/* A scalar of so many bytes; about half of them have a plus. */
 static struct bytes any_scalar(size_t n)
 {
     uint8_t all[66];
     size_t i;
-    uint32_t kind = next_number() % 4;
+    uint32_t kind = next_number() % 4, sign = next_number() % (2 * SIGNS - 2);
     for (i = 0; i < n; i++)
         all[i] = kind == 0 ? 255 : kind == 1 ? (uint8_t)(next_number() & next_number()) : (uint8_t)next_number();
-    return bytes_of(all, n);
+    return with_sign(bytes_of(all, n), sign < SIGNS ? signs[sign] : 0);
 }
 
 /* Frees an input, and says whether it is as it was handed in. */
@@ -220,13 +235,16 @@ static size_t columns_of(const uint8_t *p, const uint8_t *q, size_t places)
     return weight;
 }
 
-/* Whether the digits' sum of digit times 2^place is the scalar. The number is kept in bytes, the least significant first. */
+/*
+ * Whether the digits' sum of digit times 2^place is the scalar, by the digits negated where it has a minus. The number is kept in bytes, the
+ * least significant first.
+ */
 static int reads_back(const uint8_t *digits, size_t length, struct bytes scalar)
 {
     uint8_t number[80] = {0};
     size_t i, j;
     for (i = length; i > 0; i--) {
-        int carry = digit(digits, i - 1);
+        int carry = scalar.sign == 0 ? digit(digits, i - 1) : -digit(digits, i - 1);
         for (j = 0; j < sizeof number; j++) {
             int sum = 2 * number[j] + carry;
             number[j] = (uint8_t)(sum & 255);
@@ -251,13 +269,23 @@ static size_t bit_length(struct bytes scalar)
     return 8 * (scalar.n - i - 1) + bits;
 }
 
+/* Whether a row is another one, with each digit negated where the sign is a minus. */
+static int has_sign(const uint8_t *row, const uint8_t *plus, size_t places, uint32_t sign)
+{
+    size_t i;
+    for (i = 0; i < places; i++)
+        if (digit(row, i) != (sign == 0 ? digit(plus, i) : -digit(plus, i)))
+            return 0;
+    return 1;
+}
+
 /* ---- rows ---- */
 
 /* A row call that is to give these digits, of which so many are not 0. */
 static void row_is(struct bytes scalar, uint32_t m, size_t places, size_t weight, const int8_t *digits, size_t length, int line)
 {
     uint8_t *out = lend(&first);
-    written(sheets_row(scalar.at, scalar.n, m, out, places), length, weight, line);
+    written(sheets_row(scalar.at, scalar.n, scalar.sign, m, out, places), length, weight, line);
     check(weight_of(out, places) == weight, "its weight", line);
     check(length <= places && memcmp(out, digits, length) == 0, "its digits", line);
     check(zeros_above(out, length, places), "zeros above", line);
@@ -271,7 +299,7 @@ static void row_is(struct bytes scalar, uint32_t m, size_t places, size_t weight
 /* A row call that is to be refused. */
 static void row_refused(struct bytes scalar, uint32_t m, size_t places, uint32_t number, int line)
 {
-    refused(sheets_row(scalar.at, scalar.n, m, lend(&first), places), number, line);
+    refused(sheets_row(scalar.at, scalar.n, scalar.sign, m, lend(&first), places), number, line);
     check(kept(&first, 0), "the buffer is as lent", line);
     check(only_read(scalar), "the scalar is only read", line);
 }
@@ -291,6 +319,55 @@ static void heavy_rows(void)
     row_is(filled(0xaa, 66), 1, SHEETS_PLACES(66), 264, positive, 528, __LINE__);
     row_is(filled(0x55, 66), 1, SHEETS_PLACES(66), 264, positive + 1, 527, __LINE__);
     row_is(heavy(), 1, SHEETS_PLACES(66), 265, negative, 529, __LINE__);
+}
+
+/* With every sign the same answer, and the row with each digit negated or not; all that is not plus gives the same bytes. */
+static void signed_row(struct bytes scalar, uint32_t m, int line)
+{
+    static uint8_t plus[SHEETS_PLACES(66)], negated[SHEETS_PLACES(66)];
+    size_t places = SHEETS_PLACES(scalar.n), i;
+    uint64_t expected = sheets_row(scalar.at, scalar.n, 0, m, plus, places);
+    sheets_row(scalar.at, scalar.n, 1, m, negated, places);
+    for (i = 0; i < SIGNS; i++) {
+        uint8_t *out = lend(&first);
+        check(sheets_row(scalar.at, scalar.n, signs[i], m, out, places) == expected, "the answer with a sign", line);
+        check(has_sign(out, plus, places, signs[i]), "the row with a sign", line);
+        check(memcmp(out, signs[i] == 0 ? plus : negated, places) == 0, "the row of any minus", line);
+        check(reads_back(out, places, with_sign(scalar, signs[i])), "it reads back to the signed scalar", line);
+        check(kept(&first, places), "no other byte with a sign", line);
+    }
+    check(only_read(scalar), "the scalar is only read", line);
+}
+
+/* The samples with a minus; zero with one; small scalars and long ones with every sign; and refusals with every sign. */
+static void negative_rows(void)
+{
+    int8_t ones[529] = {1}, none[1] = {0};
+    unsigned value;
+    uint32_t m;
+    size_t i;
+
+    ROW(minus(byte(7)), 5, 9, 2, 1, 0, 0, -1);
+    ROW(minus(byte(9)), 5, 9, 2, -1, 0, 0, -1);
+    ROW(minus(byte(9)), 7, 9, 2, 7, 0, 0, 0, -1);
+    ROW(minus(byte(33)), 31, 9, 2, 31, 0, 0, 0, 0, 0, -1);
+    ROW(minus(byte(53)), 3, 9, 3, 3, 0, 0, 1, 0, 0, -1);
+    ones[528] = -1;
+    row_is(minus(filled(255, 66)), 1, SHEETS_PLACES(66), 2, ones, 529, __LINE__);
+    for (m = 1; m <= 31; m += 2) {
+        for (value = 0; value < 64; value++)
+            signed_row(byte((uint8_t)value), m, __LINE__);
+        signed_row(any_scalar(66), m, __LINE__);
+        signed_row(filled(0, 66), m, __LINE__);
+    }
+    for (i = 0; i < SIGNS; i++) {
+        row_is(with_sign(byte(0), signs[i]), 1, 9, 0, none, 0, __LINE__);
+        row_is(with_sign(filled(0, 66), signs[i]), 31, SHEETS_PLACES(66), 0, none, 0, __LINE__);
+        ROW_REFUSED(with_sign(filled(1, 0), signs[i]), 4, 0, 1);
+        ROW_REFUSED(with_sign(filled(1, 67), signs[i]), 1, 1000, 1);
+        ROW_REFUSED(with_sign(byte(7), signs[i]), 4, 9, 2);
+        ROW_REFUSED(with_sign(byte(7), signs[i]), 5, 8, 3);
+    }
 }
 
 static void rows(void)
@@ -340,9 +417,11 @@ static void rows(void)
     ROW_REFUSED(bytes_of((const uint8_t *)"\0\0\7", 3), 5, 24, 3);
 
     /* no buffer at all */
-    CHECK(sheets_row(NULL, 0, 1, NULL, 0) == (uint64_t)1 << 32);
-    CHECK(sheets_row((const uint8_t *)"\7", 1, 2, NULL, 0) == (uint64_t)2 << 32);
-    CHECK(sheets_row((const uint8_t *)"\7", 1, 1, NULL, 0) == (uint64_t)3 << 32);
+    CHECK(sheets_row(NULL, 0, 0, 1, NULL, 0) == (uint64_t)1 << 32);
+    CHECK(sheets_row(NULL, 0, 1, 1, NULL, 0) == (uint64_t)1 << 32);
+    CHECK(sheets_row((const uint8_t *)"\7", 1, 0, 2, NULL, 0) == (uint64_t)2 << 32);
+    CHECK(sheets_row((const uint8_t *)"\7", 1, 0, 1, NULL, 0) == (uint64_t)3 << 32);
+    CHECK(sheets_row((const uint8_t *)"\7", 1, 4294967295u, 1, NULL, 0) == (uint64_t)3 << 32);
 
     /* every window, and scalars of every length */
     for (n = 1; n <= 66; n++)
@@ -350,7 +429,7 @@ static void rows(void)
             struct bytes scalar = any_scalar(n);
             size_t places = SHEETS_PLACES(n), i, length;
             uint8_t *out = lend(&first);
-            uint64_t answer = sheets_row(scalar.at, n, m, out, places);
+            uint64_t answer = sheets_row(scalar.at, n, scalar.sign, m, out, places);
             int allowed = 1;
             length = length_within(answer, places);
             written(answer, length, weight_of(out, places), __LINE__);
@@ -365,6 +444,7 @@ static void rows(void)
             CHECK(zeros_above(out, length, places) && kept(&first, places));
             CHECK(only_read(scalar));
         }
+    negative_rows();
 }
 
 /* ---- joint forms ---- */
@@ -375,7 +455,7 @@ static void joint_is(struct bytes k, struct bytes l, size_t weight, const int8_t
 {
     uint8_t *p = lend(&first), *q = lend(&second);
     size_t places = SHEETS_PLACES(k.n > l.n ? k.n : l.n);
-    written(sheets_joint(k.at, k.n, l.at, l.n, p, places, q, places + 3), length, weight, line);
+    written(sheets_joint(k.at, k.n, k.sign, l.at, l.n, l.sign, p, places, q, places + 3), length, weight, line);
     check(columns_of(p, q, places) == weight, "its weight", line);
     check(memcmp(p, k_digits, length) == 0, "the digits of k", line);
     check(memcmp(q, l_digits, length) == 0, "the digits of l", line);
@@ -386,7 +466,7 @@ static void joint_is(struct bytes k, struct bytes l, size_t weight, const int8_t
 
 static void joint_refused(struct bytes k, struct bytes l, size_t k_places, size_t l_places, uint32_t number, int line)
 {
-    refused(sheets_joint(k.at, k.n, l.at, l.n, lend(&first), k_places, lend(&second), l_places), number, line);
+    refused(sheets_joint(k.at, k.n, k.sign, l.at, l.n, l.sign, lend(&first), k_places, lend(&second), l_places), number, line);
     check(kept(&first, 0) && kept(&second, 0), "the buffers are as lent", line);
     check(only_read(k) & only_read(l), "the scalars are only read", line);
 }
@@ -428,6 +508,27 @@ static void heavy_joints(void)
     joint_is(filled(255, 66), filled(255, 66), 2, ones, ones, 529, __LINE__);
 }
 
+/* The samples with a minus in k, in l and in both: each row is negated with its own scalar. Zero with a minus; refusals with every sign. */
+static void negative_joints(void)
+{
+    static const int8_t thirteen[] = {-1, -1, 0, 0, 1}, less_thirteen[] = {1, 1, 0, 0, -1};
+    static const int8_t ten[] = {0, 1, 0, 1, 0}, less_ten[] = {0, -1, 0, -1, 0}, none[] = {0}, one[] = {1};
+    size_t i;
+    for (i = 1; i < SIGNS; i++) {
+        joint_is(with_sign(byte(13), signs[i]), byte(10), 4, less_thirteen, ten, 5, __LINE__);
+        joint_is(byte(13), with_sign(byte(10), signs[i]), 4, thirteen, less_ten, 5, __LINE__);
+        joint_is(with_sign(byte(13), signs[i]), minus(byte(10)), 4, less_thirteen, less_ten, 5, __LINE__);
+    }
+    for (i = 0; i < SIGNS; i++) {
+        joint_is(with_sign(byte(0), signs[i]), with_sign(filled(0, 66), signs[i]), 0, none, none, 0, __LINE__);
+        joint_is(byte(1), with_sign(byte(0), signs[i]), 1, one, none, 1, __LINE__);
+        joint_is(with_sign(byte(0), signs[i]), byte(1), 1, none, one, 1, __LINE__);
+        JOINT_REFUSED(with_sign(byte(7), signs[i]), with_sign(filled(1, 0), signs[i]), 1000, 1000, 1);
+        JOINT_REFUSED(with_sign(filled(1, 67), signs[i]), with_sign(byte(7), signs[i]), 0, 0, 1);
+        JOINT_REFUSED(with_sign(byte(7), signs[i]), with_sign(byte(2), signs[i]), 9, 8, 3);
+    }
+}
+
 static void joints(void)
 {
     size_t n;
@@ -458,15 +559,17 @@ static void joints(void)
     JOINT_REFUSED(filled(255, 66), byte(7), 529, 528, 3);
 
     /* no buffer at all */
-    CHECK(sheets_joint(NULL, 0, NULL, 0, NULL, 0, NULL, 0) == (uint64_t)1 << 32);
-    CHECK(sheets_joint((const uint8_t *)"\7", 1, (const uint8_t *)"\2", 1, NULL, 0, NULL, 0) == (uint64_t)3 << 32);
+    CHECK(sheets_joint(NULL, 0, 0, NULL, 0, 0, NULL, 0, NULL, 0) == (uint64_t)1 << 32);
+    CHECK(sheets_joint(NULL, 0, 1, NULL, 0, 2, NULL, 0, NULL, 0) == (uint64_t)1 << 32);
+    CHECK(sheets_joint((const uint8_t *)"\7", 1, 0, (const uint8_t *)"\2", 1, 0, NULL, 0, NULL, 0) == (uint64_t)3 << 32);
+    CHECK(sheets_joint((const uint8_t *)"\7", 1, 256, (const uint8_t *)"\2", 1, 1, NULL, 0, NULL, 0) == (uint64_t)3 << 32);
 
     /* scalars of every length */
     for (n = 1; n <= 66; n++) {
         struct bytes k = any_scalar(n), l = any_scalar(1 + next_number() % 66);
         size_t places = SHEETS_PLACES(k.n > l.n ? k.n : l.n), bits, length;
         uint8_t *p = lend(&first), *q = lend(&second);
-        uint64_t answer = sheets_joint(k.at, k.n, l.at, l.n, p, places, q, places);
+        uint64_t answer = sheets_joint(k.at, k.n, k.sign, l.at, l.n, l.sign, p, places, q, places);
         length = length_within(answer, places);
         bits = bit_length(k) > bit_length(l) ? bit_length(k) : bit_length(l);
         written(answer, length, columns_of(p, q, places), __LINE__);
@@ -479,6 +582,7 @@ static void joints(void)
         CHECK(kept(&first, places) && kept(&second, places));
         CHECK(only_read(k) & only_read(l));
     }
+    negative_joints();
 }
 
 /* ---- joint forms with codes ---- */
@@ -494,7 +598,7 @@ static void codes_are(struct bytes k, struct bytes l, struct form form, int line
 {
     uint8_t *p = lend(&first), *q = lend(&second), *pc = lend(&third), *qc = lend(&fourth);
     size_t n = form.length, places = SHEETS_PLACES(k.n > l.n ? k.n : l.n);
-    uint64_t answer = sheets_joint_codes(k.at, k.n, l.at, l.n, p, places, q, places + 3, pc, places + 5, qc, places + 7);
+    uint64_t answer = sheets_joint_codes(k.at, k.n, k.sign, l.at, l.n, l.sign, p, places, q, places + 3, pc, places + 5, qc, places + 7);
     written(answer, n, form.weight, line);
     check(columns_of(p, q, places) == form.weight, "its weight", line);
     check(memcmp(p, form.k_digits, n) == 0 && memcmp(q, form.l_digits, n) == 0, "the digits of k and l", line);
@@ -509,8 +613,8 @@ static void codes_are(struct bytes k, struct bytes l, struct form form, int line
 
 static void codes_refused(struct bytes k, struct bytes l, const size_t rooms[4], uint32_t number, int line)
 {
-    uint64_t answer = sheets_joint_codes(k.at, k.n, l.at, l.n, lend(&first), rooms[0], lend(&second), rooms[1], lend(&third),
-                                         rooms[2], lend(&fourth), rooms[3]);
+    uint64_t answer = sheets_joint_codes(k.at, k.n, k.sign, l.at, l.n, l.sign, lend(&first), rooms[0], lend(&second), rooms[1],
+                                         lend(&third), rooms[2], lend(&fourth), rooms[3]);
     refused(answer, number, line);
     check(kept(&first, 0) && kept(&second, 0) && kept(&third, 0) && kept(&fourth, 0), "the buffers are as lent", line);
     check(only_read(k) & only_read(l), "the scalars are only read", line);
@@ -534,6 +638,50 @@ static int code_at(const uint8_t *row, const uint8_t *other, size_t i, size_t pl
     if (c % 2 == 0)
         return 0;
     return (c % 8 == 3 || c % 8 == 5) && o % 4 == 2 ? 2 : 1;
+}
+
+/* With every two signs the same answer and the same codes, and each row negated with its own scalar or not, by both calls. */
+static void signed_joint(struct bytes k, struct bytes l, int line)
+{
+    static uint8_t k_plus[SHEETS_PLACES(66)], l_plus[SHEETS_PLACES(66)], k_codes[SHEETS_PLACES(66)], l_codes[SHEETS_PLACES(66)];
+    size_t places = SHEETS_PLACES(k.n > l.n ? k.n : l.n), i;
+    uint64_t expected = sheets_joint_codes(k.at, k.n, 0, l.at, l.n, 0, k_plus, places, l_plus, places, k_codes, places, l_codes, places);
+    for (i = 0; i < SIGNS * SIGNS; i++) {
+        uint32_t ks = signs[i / SIGNS], ls = signs[i % SIGNS];
+        uint8_t *p = lend(&first), *q = lend(&second), *pc = lend(&third), *qc = lend(&fourth);
+        check(sheets_joint_codes(k.at, k.n, ks, l.at, l.n, ls, p, places, q, places, pc, places, qc, places) == expected,
+              "the answer with signs", line);
+        check(has_sign(p, k_plus, places, ks) && has_sign(q, l_plus, places, ls), "the rows with signs", line);
+        check(memcmp(pc, k_codes, places) == 0 && memcmp(qc, l_codes, places) == 0, "the codes with signs", line);
+        check(reads_back(p, places, with_sign(k, ks)) && reads_back(q, places, with_sign(l, ls)), "they read back", line);
+        check(kept(&first, places) && kept(&second, places) && kept(&third, places) && kept(&fourth, places), "no other byte", line);
+        p = lend(&first);
+        q = lend(&second);
+        check(sheets_joint(k.at, k.n, ks, l.at, l.n, ls, p, places, q, places) == expected, "the joint call's answer with signs", line);
+        check(has_sign(p, k_plus, places, ks) && has_sign(q, l_plus, places, ls), "the joint call's rows with signs", line);
+        check(kept(&first, places) && kept(&second, places), "no other byte by the joint call", line);
+    }
+    check(only_read(k) & only_read(l), "the scalars are only read", line);
+}
+
+/* A sign that turns, with a minus in k, in l and in both; small and long scalars with every two signs; refusals with every sign. */
+static void negative_codes(void)
+{
+    uint8_t value;
+    size_t i;
+    codes_are(minus(byte(13)), byte(10), (struct form){5, 4, {1, 1, 0, 0, -1}, {0, 1, 0, 1, 0}, {2, 1, 0, 0, 1}, {0, 1, 0, 1, 0}}, __LINE__);
+    codes_are(byte(13), minus(byte(10)), (struct form){5, 4, {-1, -1, 0, 0, 1}, {0, -1, 0, -1, 0}, {2, 1, 0, 0, 1}, {0, 1, 0, 1, 0}}, __LINE__);
+    codes_are(minus(byte(3)), minus(byte(2)), (struct form){2, 2, {-1, -1}, {0, -1}, {2, 1}, {0, 1}}, __LINE__);
+    for (value = 0; value < 64; value++)
+        signed_joint(byte(value / 8), byte(value % 8), __LINE__);
+    for (i = 1; i <= 66; i += 13)
+        signed_joint(any_scalar(i), any_scalar(67 - i), __LINE__);
+    signed_joint(filled(255, 66), filled(0, 66), __LINE__);
+    for (i = 0; i < SIGNS; i++) {
+        codes_are(with_sign(byte(0), signs[i]), with_sign(byte(0), signs[i]), (struct form){0, 0, {0}, {0}, {0}, {0}}, __LINE__);
+        CODES_REFUSED(with_sign(filled(1, 67), signs[i]), with_sign(byte(2), signs[i]), 1000, 1000, 1000, 1000, 1);
+        CODES_REFUSED(with_sign(byte(7), signs[i]), with_sign(byte(2), signs[i]), 9, 9, 9, 8, 3);
+    }
 }
 
 static void codes(void)
@@ -565,8 +713,11 @@ static void codes(void)
     CODES_REFUSED(filled(255, 66), byte(7), 529, 529, 529, 528, 3);
 
     /* no buffer at all */
-    CHECK(sheets_joint_codes(NULL, 0, NULL, 0, NULL, 0, NULL, 0, NULL, 0, NULL, 0) == (uint64_t)1 << 32);
-    CHECK(sheets_joint_codes((const uint8_t *)"\7", 1, (const uint8_t *)"\2", 1, NULL, 0, NULL, 0, NULL, 0, NULL, 0) == (uint64_t)3 << 32);
+    CHECK(sheets_joint_codes(NULL, 0, 0, NULL, 0, 1, NULL, 0, NULL, 0, NULL, 0, NULL, 0) == (uint64_t)1 << 32);
+    CHECK(sheets_joint_codes((const uint8_t *)"\7", 1, 0, (const uint8_t *)"\2", 1, 0, NULL, 0, NULL, 0, NULL, 0, NULL, 0)
+          == (uint64_t)3 << 32);
+    CHECK(sheets_joint_codes((const uint8_t *)"\7", 1, 2, (const uint8_t *)"\2", 1, 1, NULL, 0, NULL, 0, NULL, 0, NULL, 0)
+          == (uint64_t)3 << 32);
 
     /* scalars of every length: the rows of the joint call, and at every place the code of its remainders */
     for (n = 1; n <= 66; n++) {
@@ -574,10 +725,10 @@ static void codes(void)
         struct bytes k = any_scalar(n), l = any_scalar(1 + next_number() % 66);
         size_t places = SHEETS_PLACES(k.n > l.n ? k.n : l.n);
         uint8_t *p = lend(&first), *q = lend(&second), *pc = lend(&third), *qc = lend(&fourth);
-        uint64_t answer = sheets_joint_codes(k.at, k.n, l.at, l.n, p, places, q, places, pc, places, qc, places);
+        uint64_t answer = sheets_joint_codes(k.at, k.n, k.sign, l.at, l.n, l.sign, p, places, q, places, pc, places, qc, places);
         int right = 1;
         written(answer, sheets_length(answer), columns_of(p, q, places), __LINE__);
-        CHECK(answer == sheets_joint(k.at, k.n, l.at, l.n, k_row, places, l_row, places));
+        CHECK(answer == sheets_joint(k.at, k.n, k.sign, l.at, l.n, l.sign, k_row, places, l_row, places));
         CHECK(memcmp(p, k_row, places) == 0 && memcmp(q, l_row, places) == 0);
         CHECK(reads_back(p, places, k) && reads_back(q, places, l));
         for (i = 0; i < places; i++)
@@ -586,6 +737,7 @@ static void codes(void)
         CHECK(kept(&first, places) && kept(&second, places) && kept(&third, places) && kept(&fourth, places));
         CHECK(only_read(k) & only_read(l));
     }
+    negative_codes();
 }
 
 /* ---- sheets ---- */
@@ -603,10 +755,10 @@ static struct order cheapest(uint32_t limit) { return (struct order){'C', limit,
 static uint64_t write_sheet(struct order o, struct bytes k, struct bytes l, uint8_t *sheet, size_t room)
 {
     if (o.kind == 'J')
-        return sheets_plan_j(k.at, k.n, l.at, l.n, sheet, room);
+        return sheets_plan_j(k.at, k.n, k.sign, l.at, l.n, l.sign, sheet, room);
     if (o.kind == 'I')
-        return sheets_plan_i(k.at, k.n, l.at, l.n, o.m1, o.m2, sheet, room);
-    return sheets_cheapest(k.at, k.n, l.at, l.n, o.m1, sheet, room);
+        return sheets_plan_i(k.at, k.n, k.sign, l.at, l.n, l.sign, o.m1, o.m2, sheet, room);
+    return sheets_cheapest(k.at, k.n, k.sign, l.at, l.n, l.sign, o.m1, sheet, room);
 }
 
 /* The additions that a sheet's header states, behind S, the kind, the windows and the slots. */
@@ -633,6 +785,15 @@ static size_t counted_additions(const uint8_t *sheet, size_t length)
     return additions;
 }
 
+/* Whether the header has a minus before a scalar, the field behind so many commas, just where its sign is one and it is not zero. */
+static int states_sign(const uint8_t *sheet, size_t length, size_t commas, struct bytes scalar)
+{
+    size_t i;
+    for (i = 0; i < length && commas > 0; i++)
+        commas -= sheet[i] == ',';
+    return i < length && (sheet[i] == '-') == (scalar.sign != 0 && bit_length(scalar) > 0);
+}
+
 /* A call that is to write a sheet that begins so, with the additions that it states, and that the reader accepts. Returns the answer. */
 static uint64_t sheet_begins(struct order o, struct bytes k, struct bytes l, const char *begins, int line)
 {
@@ -643,6 +804,7 @@ static uint64_t sheet_begins(struct order o, struct bytes k, struct bytes l, con
     written(answer, length, counted_additions(sheet, length), line);
     check(stated_additions(sheet, length) == sheets_additions(answer), "the additions of the header", line);
     check(strlen(begins) <= length && memcmp(sheet, begins, strlen(begins)) == 0, "it begins so", line);
+    check(states_sign(sheet, length, 7, k) && states_sign(sheet, length, 8, l), "the signs of the header", line);
     check(kept(&first, length), "no byte behind it", line);
     lines = bytes_of(sheet, length);
     check(sheets_read(lines.at, lines.n) == 0, "the reader accepts it", line);
@@ -697,6 +859,75 @@ static void heavy_sheets(void)
     written(answer, 284 + 12 + 528 * 2 + 264 * 14 + 2, 529, __LINE__);
     header_is(plan_j, repeated(0x24, 0x92, 0x49), repeated(0x49, 0x24, 0x92), 353, "S,J,1,1,2,353,526,2492", __LINE__);
     header_is(plan_i(31, 1), byte(0), heavy(), 279, "S,I,31,1,16,279,529,0,aaaa", __LINE__);
+}
+
+/*
+ * The sheet with a minus in k, in l and in both: the same additions, the steps with the digits of each negative scalar negated, and any sign
+ * but 0 the same bytes. The texts are those of plus and plus, minus and plus, plus and minus, minus and minus.
+ */
+static void signed_sheet(struct order o, uint8_t k, uint8_t l, size_t additions, const char *const texts[4], int line)
+{
+    size_t i;
+    for (i = 0; i < SIGNS * SIGNS; i++) {
+        uint32_t ks = signs[i / SIGNS], ls = signs[i % SIGNS];
+        sheet_is(o, with_sign(byte(k), ks), with_sign(byte(l), ls), additions, texts[(ks != 0) + 2 * (ls != 0)], line);
+    }
+}
+
+static const char less_seven_two[] = "S,I,1,1,0,2,3,-7,2\nL,-1,0\nD\nD\nA,0,1\nD\nA,1,0\nE\n";
+static const char seven_less_two[] = "S,I,1,1,0,2,3,7,-2\nL,1,0\nD\nD\nA,0,-1\nD\nA,-1,0\nE\n";
+static const char less_seven_less_two[] = "S,I,1,1,0,2,3,-7,-2\nL,-1,0\nD\nD\nA,0,-1\nD\nA,1,0\nE\n";
+
+/* Sheets by each call, with every two signs; the longest scalars and zero with a minus; and refusals with every sign. */
+static void negative_sheets(void)
+{
+    static const char *const seven_two_texts[] = {seven_two, less_seven_two, seven_less_two, less_seven_less_two};
+    static const char *const thirteen_ten_texts[] = {
+        thirteen_ten,
+        "S,J,1,1,2,5,4,-d,a\nT,1,1\nT,1,-1\nL,-1,0\nD\nA,0,1\nD\nD\nA,1,1\nD\nA,1,0\nE\n",
+        "S,J,1,1,2,5,4,d,-a\nT,1,1\nT,1,-1\nL,1,0\nD\nA,0,-1\nD\nD\nA,-1,-1\nD\nA,-1,0\nE\n",
+        "S,J,1,1,2,5,4,-d,-a\nT,1,1\nT,1,-1\nL,-1,0\nD\nA,0,-1\nD\nD\nA,1,-1\nD\nA,1,0\nE\n",
+    };
+    static const char less_nine[] = "S,I,5,1,3,3,4,-9,0\nT,2,0\nT,3,0\nT,5,0\nL,-1,0\nD\nD\nD\nA,-1,0\nE\n";
+    static const char *const nine_texts[] = {nine, less_nine, nine, less_nine};
+    char ones[160] = "S,I,1,1,0,1,528,-";
+    uint64_t answer;
+    size_t i;
+
+    signed_sheet(cheapest(0), 7, 2, 2, seven_two_texts, __LINE__);
+    signed_sheet(cheapest(31), 7, 2, 2, seven_two_texts, __LINE__);
+    signed_sheet(plan_i(1, 1), 7, 2, 2, seven_two_texts, __LINE__);
+    signed_sheet(plan_j, 13, 10, 5, thirteen_ten_texts, __LINE__);
+    signed_sheet(plan_i(5, 1), 9, 0, 3, nine_texts, __LINE__);
+
+    /* the chosen plan stays */
+    header_is(cheapest(2), minus(byte(3)), byte(0), 1, "S,I,3,1,2,1,1,-3,0\n", __LINE__);
+    header_is(cheapest(2), byte(6), minus(byte(11)), 4, "S,J,1,1,2,4,3,6,-b\n", __LINE__);
+    header_is(cheapest(2), minus(byte(3)), minus(byte(3)), 3, "S,I,1,1,0,3,2,-3,-3\n", __LINE__);
+
+    /* 132 figures behind a minus; the most steps with both signs minus: two bytes more in the header, a minus more at the top and fewer below */
+    for (i = strlen(ones) + 132; i-- > 17;)
+        ones[i] = 'f';
+    header_is(plan_i(1, 1), minus(filled(255, 66)), byte(0), 1, ones, __LINE__);
+    answer = sheet_begins(plan_i(1, 1), minus(heavy()), minus(heavy()), "S,I,1,1,0,529,528,-aaaa", __LINE__);
+    written(answer, 286 + 14 + 528 * 2 + 264 * 12 + 2, 529, __LINE__);
+
+    for (i = 0; i < SIGNS; i++) {
+        /* zero is written 0 */
+        sheet_is(plan_j, with_sign(byte(0), signs[i]), with_sign(filled(0, 66), signs[i]), 2, "S,J,1,1,2,2,0,0,0\nT,1,1\nT,1,-1\nE\n", __LINE__);
+        sheet_is(plan_i(1, 1), with_sign(filled(0, 66), signs[i]), with_sign(byte(0), signs[i]), 0, "S,I,1,1,0,0,0,0,0\nE\n", __LINE__);
+        sheet_is(cheapest(0), with_sign(byte(0), signs[i]), byte(1), 0, "S,I,1,1,0,0,0,0,1\nL,0,1\nE\n", __LINE__);
+        sheet_is(cheapest(31), minus(byte(1)), with_sign(byte(0), signs[i]), 0, "S,I,1,1,0,0,0,-1,0\nL,-1,0\nE\n", __LINE__);
+
+        SHEET_REFUSED(plan_j, with_sign(filled(1, 0), signs[i]), with_sign(byte(2), signs[i]), SHEETS_BYTES, 1);
+        SHEET_REFUSED(plan_j, with_sign(byte(7), signs[i]), with_sign(byte(2), signs[i]), SHEETS_BYTES - 1, 3);
+        SHEET_REFUSED(plan_i(2, 1), with_sign(byte(7), signs[i]), with_sign(filled(1, 67), signs[i]), 0, 1);
+        SHEET_REFUSED(plan_i(1, 33), with_sign(byte(7), signs[i]), with_sign(byte(2), signs[i]), 0, 2);
+        SHEET_REFUSED(plan_i(1, 1), with_sign(byte(7), signs[i]), with_sign(byte(2), signs[i]), 0, 3);
+        SHEET_REFUSED(cheapest(32), with_sign(filled(1, 67), signs[i]), with_sign(byte(2), signs[i]), 0, 1);
+        SHEET_REFUSED(cheapest(32), with_sign(byte(7), signs[i]), with_sign(byte(2), signs[i]), 0, 4);
+        SHEET_REFUSED(cheapest(31), with_sign(byte(7), signs[i]), with_sign(byte(2), signs[i]), 0, 3);
+    }
 }
 
 static void sheets(void)
@@ -779,11 +1010,12 @@ static void sheets(void)
     SHEET_REFUSED(cheapest(31), byte(7), byte(2), 0, 3);
 
     /* no buffer at all */
-    CHECK(sheets_plan_j(NULL, 0, NULL, 0, NULL, 0) == (uint64_t)1 << 32);
-    CHECK(sheets_plan_i(NULL, 0, NULL, 0, 0, 0, NULL, 0) == (uint64_t)1 << 32);
-    CHECK(sheets_cheapest(NULL, 0, NULL, 0, 32, NULL, 0) == (uint64_t)1 << 32);
-    CHECK(sheets_plan_j((const uint8_t *)"\7", 1, (const uint8_t *)"\2", 1, NULL, 0) == (uint64_t)3 << 32);
-    CHECK(sheets_cheapest((const uint8_t *)"\7", 1, (const uint8_t *)"\2", 1, 0, NULL, 0) == (uint64_t)3 << 32);
+    CHECK(sheets_plan_j(NULL, 0, 0, NULL, 0, 1, NULL, 0) == (uint64_t)1 << 32);
+    CHECK(sheets_plan_i(NULL, 0, 1, NULL, 0, 0, 0, 0, NULL, 0) == (uint64_t)1 << 32);
+    CHECK(sheets_cheapest(NULL, 0, 0, NULL, 0, 0, 32, NULL, 0) == (uint64_t)1 << 32);
+    CHECK(sheets_plan_j((const uint8_t *)"\7", 1, 0, (const uint8_t *)"\2", 1, 0, NULL, 0) == (uint64_t)3 << 32);
+    CHECK(sheets_cheapest((const uint8_t *)"\7", 1, 1, (const uint8_t *)"\2", 1, 2, 0, NULL, 0) == (uint64_t)3 << 32);
+    negative_sheets();
 }
 
 /* ---- the reader ---- */
@@ -799,30 +1031,31 @@ static void read_is(struct bytes sheet, uint32_t number, uint32_t at, int line)
 
 #define READ(sheet, number, at) read_is(text(sheet), (number), (at), __LINE__)
 
-/* A sheet of plan I for 2^doublings - 1, if that many D lines are allowed. */
-static struct bytes long_sheet(unsigned doublings)
+/* A sheet of plan I for 2^528 - 1 behind this sign, with so many D lines between a load of the top digit and the last. */
+static struct bytes long_sheet(unsigned doublings, const char *sign, const char *top, const char *last)
 {
     static char all[4096];
     unsigned i;
-    size_t n = (size_t)snprintf(all, sizeof all, "S,I,1,1,0,1,%u,", doublings);
+    size_t n = (size_t)snprintf(all, sizeof all, "S,I,1,1,0,1,%u,%s", doublings, sign);
     for (i = 0; i < 132; i++)
         all[n++] = 'f';
-    n += (size_t)snprintf(all + n, sizeof all - n, ",0\nL,1,0\n");
+    n += (size_t)snprintf(all + n, sizeof all - n, ",0\nL,%s,0\n", top);
     for (i = 0; i < doublings; i++)
         n += (size_t)snprintf(all + n, sizeof all - n, "D\n");
-    n += (size_t)snprintf(all + n, sizeof all - n, "A,-1,0\nE\n");
+    n += (size_t)snprintf(all + n, sizeof all - n, "A,%s,0\nE\n", last);
     return bytes_of((const uint8_t *)all, n);
 }
 
-static void damaged(void)
+/* A sheet of eight lines, with every byte replaced by every other, and cut at every byte. */
+static void damaged(const char *good)
 {
-    size_t n = sizeof seven_two - 1, i;
+    size_t n = strlen(good), i;
     unsigned value;
     int refused = 1, placed = 1, cut = 1;
     for (i = 0; i < n; i++) {
-        struct bytes sheet = text(seven_two), prefix = bytes_of((const uint8_t *)seven_two, i);
+        struct bytes sheet = text(good), prefix = bytes_of((const uint8_t *)good, i);
         for (value = 0; value < 256; value++)
-            if (value != (uint8_t)seven_two[i]) {
+            if (value != (uint8_t)good[i]) {
                 uint64_t answer;
                 sheet.at[i] = (uint8_t)value;
                 answer = sheets_read(sheet.at, sheet.n);
@@ -837,6 +1070,38 @@ static void damaged(void)
     CHECK(refused);
     CHECK(placed);
     CHECK(cut);
+}
+
+/* Signs in the header. */
+static void negative_readings(void)
+{
+    READ(less_seven_two, 0, 0);
+    READ(seven_less_two, 0, 0);
+    READ(less_seven_less_two, 0, 0);
+
+    /* 6. a minus stands alone before figures, of which there are 132 at most, and not before 0 */
+    READ("S,I,1,1,0,0,0,-0,0\nE\n", 6, 1);
+    READ("S,I,1,1,0,0,0,0,-0\nE\n", 6, 1);
+    READ("S,I,1,1,0,2,3,-07,2\nE\n", 6, 1);
+    READ("S,I,1,1,0,2,3,--7,2\nE\n", 6, 1);
+    READ("S,I,1,1,0,2,3,7,-\nE\n", 6, 1);
+    READ("S,I,1,1,0,2,3,+7,2\nE\n", 6, 1);
+    READ("S,I,1,1,0,2,3,7,2-\nE\n", 6, 1);
+    READ("S,I,1,1,-0,2,3,7,2\nE\n", 6, 1);
+
+    /* 11. the steps to 7, 2 under other signs, and steps to another pair under theirs */
+    READ("S,I,1,1,0,2,3,-7,2\nL,1,0\nD\nD\nA,0,1\nD\nA,-1,0\nE\n", 11, 1);
+    READ("S,I,1,1,0,2,3,7,-2\nL,1,0\nD\nD\nA,0,1\nD\nA,-1,0\nE\n", 11, 1);
+    READ("S,I,1,1,0,2,3,-7,-2\nL,1,0\nD\nD\nA,0,1\nD\nA,-1,0\nE\n", 11, 1);
+    READ("S,I,1,1,0,2,3,7,2\nL,-1,0\nD\nD\nA,0,1\nD\nA,1,0\nE\n", 11, 1);
+    READ("S,I,1,1,0,2,3,7,2\nL,1,0\nD\nD\nA,0,-1\nD\nA,-1,0\nE\n", 11, 1);
+    READ("S,I,1,1,0,0,0,-1,0\nE\n", 11, 1);
+
+    /* 2^528 - 1 with a minus, its steps, and those without */
+    read_is(long_sheet(528, "-", "-1", "1"), 0, 0, __LINE__);
+    read_is(long_sheet(528, "-", "1", "-1"), 11, 1, __LINE__);
+    read_is(long_sheet(528, "", "-1", "1"), 11, 1, __LINE__);
+    read_is(long_sheet(528, "-f", "-1", "1"), 6, 1, __LINE__);
 }
 
 static void readings(void)
@@ -890,9 +1155,9 @@ static void readings(void)
     READ("S,J,1,1,2,3,0,1,1\nT,1,1\nT,1,-1\nL,1,0\nA,0,1\nE\n", 8, 5);
 
     /* 9. are there at most 528 D lines? */
-    read_is(long_sheet(528), 0, 0, __LINE__);
-    read_is(long_sheet(529), 9, 531, __LINE__);
-    read_is(long_sheet(700), 9, 531, __LINE__);
+    read_is(long_sheet(528, "", "1", "-1"), 0, 0, __LINE__);
+    read_is(long_sheet(529, "", "1", "-1"), 9, 531, __LINE__);
+    read_is(long_sheet(700, "", "1", "-1"), 9, 531, __LINE__);
 
     /* 10. are both counts true? */
     READ("S,I,1,1,0,3,3,7,2\nL,1,0\nD\nD\nA,0,1\nD\nA,-1,0\nE\n", 10, 1);
@@ -911,7 +1176,9 @@ static void readings(void)
     READ("S,I,1,1,0,9,9,9,9\nL,0,0\nE\n", 8, 2);
     READ("S,I,1,1,0,9,9,9,9\nL,1,0\nE\n", 10, 1);
 
-    damaged();
+    negative_readings();
+    damaged(seven_two);
+    damaged(less_seven_less_two);
 }
 
 int main(void)

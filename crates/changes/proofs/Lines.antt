@@ -3,6 +3,7 @@ use mathlib.Core.Path.{_≡_, refl, sym, ap, _∙_}
 use mathlib.Core.List.{List, [], _∷_, _++_}
 use Prim.Native.Nat.{ℕ, _+_, _%_, _≤_, _<_}
 use native.Mathlib.Omega.{arith}
+use lib.IntN.{pos}
 use Rattle.sheet.specs.declared.Plan.{Plan}
 use Rattle.sheet.specs.declared.Plan.the-variants.{J, I}
 use Rattle.sheet.specs.Numeral.{figure, numeral}
@@ -10,7 +11,6 @@ use Rattle.sheet.specs.Numeral.Figures.{numeral-low}
 use Rattle.sheet.specs.Plan.{slots, largest}
 use Rattle.sheet.specs.Spelling.{comma, lineFeed, kind, join}
 use Rattle.written.specs.Written.{kindOf, first, second}
-use Rattle.order.specs.Order.{Order}
 use Rattle.changes.specs.Changed.{lineWith}
 use Rattle.changes.specs.Body.{OneFigure}
 
@@ -37,18 +37,18 @@ second-largest : (p : Plan) → largest p .q ≡ second p
 second-largest J = refl
 second-largest (I m1 m2) = refl
 
-module _ (o : Order) (p q : Plan) (hk : o .k < 16) (hl : o .l < 16) (hs : o .slots < 10) (hp : OneFigure p) (hq : OneFigure q) where
+module _ (k l s : ℕ) (p q : Plan) (hk : k < 16) (hl : l < 16) (hs : s < 10) (hp : OneFigure p) (hq : OneFigure q) where
   -- eighteen bytes are its line
   pub line-bytes : {a b c d e f g h i : ℕ}
-      → a ≡ figure (o .k % 16) → b ≡ figure (o .l % 16) → c ≡ figure (o .slots % 16)
+      → a ≡ figure (k % 16) → b ≡ figure (l % 16) → c ≡ figure (s % 16)
       → d ∷ [] ≡ kind (kindOf p) → e ≡ figure (largest p .p % 16) → f ≡ figure (largest p .q % 16)
       → g ∷ [] ≡ kind (kindOf q) → h ≡ figure (largest q .p % 16) → i ≡ figure (largest q .q % 16)
-      → a ∷ comma ∷ b ∷ comma ∷ c ∷ comma ∷ d ∷ comma ∷ e ∷ comma ∷ f ∷ comma ∷ g ∷ comma ∷ h ∷ comma ∷ i ∷ lineFeed ∷ [] ≡ lineWith o p q
+      → a ∷ comma ∷ b ∷ comma ∷ c ∷ comma ∷ d ∷ comma ∷ e ∷ comma ∷ f ∷ comma ∷ g ∷ comma ∷ h ∷ comma ∷ i ∷ lineFeed ∷ [] ≡ lineWith (record { k = pos k; l = pos l; slots = s }) p q
   unfolding lineWith spelled join
   line-bytes ka la sa da ea fa ga ha ia =
-      let s1 = one 16 (o .k) (omega arith) (omega arith) hk ka in
-      let s2 = one 16 (o .l) (omega arith) (omega arith) hl la in
-      let s3 = one 10 (o .slots) (omega arith) (omega arith) hs sa in
+      let s1 = one 16 k (omega arith) (omega arith) hk ka in
+      let s2 = one 16 l (omega arith) (omega arith) hl la in
+      let s3 = one 10 s (omega arith) (omega arith) hs sa in
       let s5 = window (first-largest p) (hp .first-one) ea in
       let s6 = window (second-largest p) (hp .second-one) fa in
       let s8 = window (first-largest q) (hq .first-one) ha in

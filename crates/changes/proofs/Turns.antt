@@ -5,6 +5,7 @@ use mathlib.Core.List.{List, [], _∷_, _++_}
 use Prim.Native.Nat.{ℕ, _+_, _*_, _/_, _%_, _≤_, _<_}
 use native.Mathlib.Omega.{arith}
 use borrow.Author.Tests.{le-leb, lt-leb}
+use lib.IntN.{pos}
 use lib.ListN.{length, take, drop, length-append, length-drop}
 use lib.Seq.{paste, paste-zero, take-at, drop-append-add, take-all, drop-drop}
 use Rattle.digits.specs.Scalar.{little, scalar}
@@ -24,11 +25,11 @@ scalar-one x = omega arith
 
 -- the plans of the n-th order, from its bytes
 module _ (n : ℕ) where
-  pub old-is : {p : Plan} → p ≡ oldPlan (scalar (n / 64 ∷ [])) (scalar (n / 4 % 16 ∷ [])) (n % 4) → p ≡ oldOf (orderAt n)
-  old-is e = e ∙ ap₂ (λ (k l : ℕ). oldPlan k l (n % 4)) (scalar-one (n / 64)) (scalar-one (n / 4 % 16))
+  pub old-is : {p : Plan} → p ≡ oldPlan (pos (scalar (n / 64 ∷ []))) (pos (scalar (n / 4 % 16 ∷ []))) (n % 4) → p ≡ oldOf (orderAt n)
+  old-is e = e ∙ ap₂ (λ (k l : ℕ). oldPlan (pos k) (pos l) (n % 4)) (scalar-one (n / 64)) (scalar-one (n / 4 % 16))
 
-  pub new-is : {p : Plan} → p ≡ cheapestPlan (scalar (n / 64 ∷ [])) (scalar (n / 4 % 16 ∷ [])) (n % 4) → p ≡ newOf (orderAt n)
-  new-is e = e ∙ ap₂ (λ (k l : ℕ). cheapestPlan k l (n % 4)) (scalar-one (n / 64)) (scalar-one (n / 4 % 16))
+  pub new-is : {p : Plan} → p ≡ cheapestPlan (pos (scalar (n / 64 ∷ []))) (pos (scalar (n / 4 % 16 ∷ []))) (n % 4) → p ≡ newOf (orderAt n)
+  new-is e = e ∙ ap₂ (λ (k l : ℕ). cheapestPlan (pos k) (pos l) (n % 4)) (scalar-one (n / 64)) (scalar-one (n / 4 % 16))
 
   module _ (at : ℕ) (out : List ℕ) {p q : Plan} (old : p ≡ oldOf (orderAt n)) (new : q ≡ newOf (orderAt n)) where
     -- a line is put at a place

@@ -1,5 +1,5 @@
--- The orders whose plan is another since doublings come before slots: those with scalars below 16 and a limit of at most 3, a line for
--- each.
+-- The orders whose plan is another since doublings come before slots: those with scalars from 0 to 15 and a limit of at most 3, a line
+-- for each.
 pub mod Old
 pub mod Listed
 use mathlib.Core.Path.{_≡_}
@@ -8,6 +8,7 @@ use mathlib.Core.Bool.{Bool, true, false, _&&_, cond}
 use mathlib.Core.List.{List, [], _∷_, _++_, map, flatMap}
 use Prim.Native.Nat.{ℕ, _≤_, _<_}
 use lib.Dec.{eqb, leb}
+use lib.IntN.{ℤ, pos, natAbs}
 use lib.ListN.{length, drop}
 use Rattle.sheet.specs.declared.Plan.{Plan}
 use Rattle.sheet.specs.declared.Plan.the-variants.{J, I}
@@ -23,19 +24,19 @@ use Rattle.order.specs.Order.{Order}
 -- ── the old order ───────────────────────────────────────────────────────────────────────────
 
 -- what decided between plans by 01: fewest additions; then fewest slots; then J before I; then smaller m1
-unfoldable pub oldKey : ℕ → ℕ → Plan → List ℕ
+unfoldable pub oldKey : ℤ → ℤ → Plan → List ℕ
 oldKey k l p = writtenAdditions p k l ∷ slots p ∷ rank p ∷ first p ∷ []
 
 -- the cheapest plan by it
-unfoldable pub oldPlan : ℕ → ℕ → ℕ → Plan
+unfoldable pub oldPlan : ℤ → ℤ → ℕ → Plan
 oldPlan k l limit = least (oldKey k l) (I 1 1) (within limit plans)
 
 -- ── the orders ──────────────────────────────────────────────────────────────────────────────
 
--- all with k and l below 16 and a limit of at most 3: by k, then by l, then by the limit
+-- all with k and l from 0 to 15 and a limit of at most 3: by k, then by l, then by the limit
 unfoldable pub orders : List Order
 unfolding flatMap
-orders = flatMap (λ k. flatMap (λ l. map (λ s. record { k = k; l = l; slots = s }) (from 0 4)) (from 0 16)) (from 0 16)
+orders = flatMap (λ k. flatMap (λ l. map (λ s. record { k = pos k; l = pos l; slots = s }) (from 0 4)) (from 0 16)) (from 0 16)
 
 -- the plans of an order
 abbrev pub oldOf : Order → Plan
@@ -51,17 +52,25 @@ samePlan J (I n1 n2) = false
 samePlan (I m1 m2) J = false
 samePlan (I m1 m2) (I n1 n2) = eqb m1 n1 && eqb m2 n2
 
+-- a scalar from 0 to 15
+abbrev pub Small : ℤ → Type 0
+Small z = (n : ℕ) × (n < 16) × (z ≡ pos n)
+
 -- an order of the list: small enough, and its plan is another
 pub record Affected (o : Order) : Type 0 where
-  pub k-small : o .k < 16
-  pub l-small : o .l < 16
+  pub k-small : Small (o .k)
+  pub l-small : Small (o .l)
   pub slots-few : o .slots ≤ 3
   pub differs : oldOf o ≢ newOf o
 
--- by k, then by l, then by the limit: each order before all that follow it
+-- by k, then by l, then by the limit, none of which is negative in the list
+abbrev pub sortKey : Order → List ℕ
+sortKey o = natAbs (o .k) ∷ natAbs (o .l) ∷ o .slots ∷ []
+
+-- each order before all that follow it
 abbrev pub Sorted : List Order → Type 0
 Sorted [] = Unit {0}
-Sorted (o ∷ os) = ((p : Order) → In p os → before (o .k ∷ o .l ∷ o .slots ∷ []) (p .k ∷ p .l ∷ p .slots ∷ []) ≡ true) × Sorted os
+Sorted (o ∷ os) = ((p : Order) → In p os → before (sortKey o) (sortKey p) ≡ true) × Sorted os
 
 -- the orders whose plan changed
 unfoldable pub changed : List Order → List Order

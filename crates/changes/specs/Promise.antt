@@ -13,7 +13,7 @@ use Rattle.order.specs.Order.{Order, readFields}
 use Rattle.changes.specs.Changed.{Affected, Sorted, orders, changed, orderFields, changedOrders, isRoomy, changesLength, changesBuffer}
 use Rattle.changes.specs.Changed.Listed as Listed
 
--- an order has a line exactly where its scalars are below 16, its limit is at most 3, and its plan changed
+-- an order has a line exactly where its scalars are from 0 to 15, its limit is at most 3, and its plan changed
 pub listed-exactly : (o : Order) → In o (changed orders) ↔ Affected o
 listed-exactly = Listed.listed-exactly
 

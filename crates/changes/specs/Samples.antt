@@ -4,6 +4,7 @@ use mathlib.Core.List.{List, [], _∷_, List·Memᴰ}
 use Prim.Native.Nat.{ℕ}
 use Prim.Native.String.{String}
 use lib.Dec.{T}
+use lib.IntN.{pos}
 use Rattle.forms.specs.Test.{Test, equal, sameList, everyOf}
 use Rattle.sheet.specs.Ascii.{ascii}
 use Rattle.chooser.specs.Samples.{computed}
@@ -16,7 +17,7 @@ pub data Sample : Type 0 where
 
 -- what a sample says
 abbrev order : ℕ → ℕ → ℕ → Order
-order k l limit = record { k = k; l = l; slots = limit }
+order k l limit = record { k = pos k; l = pos l; slots = limit }
 
 abbrev pub Says : Sample → Type 0
 Says (lists k l limit line) = linesOf (order k l limit ∷ []) ≡ ascii line

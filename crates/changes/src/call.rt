@@ -1,6 +1,7 @@
 ghost use mathlib.Core.Path.{_≡_};
 ghost use mathlib.Core.Bool.{true, _&&_};
 ghost use Prim.Native.Nat.{_+_, _≤_, _<_};
+ghost use lib.IntN.{pos};
 ghost use lib.ListN.{length};
 ghost use lib.Seq.{paste};
 ghost use Rattle.digits.specs.Limits.{card};
@@ -20,7 +21,7 @@ const ROOM: usize = 18432;
 // The plan of today.
 fn new_plan(k: &[u8], l: &[u8], limit: u32) -> Plan
     requires { ⌜ (sized card (now k) && sized card (now l) ≡ true) × (isLimit limit ≡ true) ⌝ }
-    ensures { λ r. ⌜ r ≡ cheapestPlan (scalar (now (k .entry))) (scalar (now (l .entry))) limit ⌝ }
+    ensures { λ r. ⌜ r ≡ cheapestPlan (pos (scalar (now (k .entry)))) (pos (scalar (now (l .entry)))) limit ⌝ }
 {
     match chooser::cheapest_plan(k, l, limit) {
         Choice::BadScalar => Plan::J,
@@ -50,7 +51,7 @@ fn put_order(out: &mut [u8], at: usize, n: u32) -> usize
     at + 18
 }
 
-// Writes a line for each order with scalars below 16 and a limit of at most 3 whose plan changed, and returns the length of them all.
+// Writes a line for each order with scalars from 0 to 15 and a limit of at most 3 whose plan changed, and returns the length of them all.
 pub fn changed_orders(out: &mut [u8]) -> usize
     ensures answer { λ r. ⌜ r ≡ changesLength (length (now (out .entry))) ⌝ }
     ensures buffer { λ _. ⌜ now (out .exit) ≡ changesBuffer (now (out .entry)) ⌝ }

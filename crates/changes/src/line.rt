@@ -1,5 +1,6 @@
 ghost use mathlib.Core.Path.{_≡_};
 ghost use Prim.Native.Nat.{_+_, _≤_, _<_};
+ghost use lib.IntN.{pos};
 ghost use lib.ListN.{length};
 ghost use lib.Seq.{paste};
 ghost use Rattle.changes.specs.Changed.{samePlan, lineWith};
@@ -25,7 +26,7 @@ pub fn same(a: Plan, b: Plan) -> bool
 // The line of an order with an old and a new plan, each field of which has one figure.
 pub fn line_of(k: u32, l: u32, slots: u32, old: Plan, new: Plan) -> [u8; 18]
     requires { ⌜ (k < 16) × ((l < 16) × ((slots < 10) × (OneFigure old × OneFigure new))) ⌝ }
-    ensures { λ r. ⌜ r ≡ lineWith (record { k = k; l = l; slots = slots }) old new ⌝ }
+    ensures { λ r. ⌜ r ≡ lineWith (record { k = pos k; l = pos l; slots = slots }) old new ⌝ }
     ensures { λ r. ⌜ length r ≡ 18 ⌝ }
 {
     let before = old.limits();

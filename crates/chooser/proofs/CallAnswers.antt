@@ -3,12 +3,12 @@
 use mathlib.Core.Path.{_≡_, refl, sym, ap, _∙_}
 use mathlib.Core.Bool.{true, false, _&&_, cond}
 use mathlib.Core.List.{List}
-use Prim.Native.Nat.{ℕ, _<_, _^_}
+use Prim.Native.Nat.{ℕ}
+use lib.IntN.{pos}
 use lib.ListN.{length}
-use Rattle.digits.specs.Scalar.Sized.{both, bounded}
 use Rattle.digits.specs.Scalar.{Bytes}
 use Rattle.digits.specs.Limits.{card}
-use Rattle.digits.specs.Scalar.{scalar, sized}
+use Rattle.digits.specs.Scalar.{scalar, signedScalar, sized}
 use Rattle.sheet.specs.declared.Plan.{Plan}
 use Rattle.sheet.specs.Plan.{isLimit}
 use Rattle.sheet.specs.Questions.Planned.{of-window}
@@ -23,6 +23,7 @@ use Rattle.chooser.specs.Body.Choice.{planAnswer, planBuffer}
 use Rattle.chooser.specs.Call.{choiceNumber, choiceQuestion, choiceAnswer, ChoicePromised, cheapestQuestion, cheapestAnswer, cheapestBuffer, Promised}
 use Rattle.chooser.specs.Cheapest.{cheapestPlan, cheapest}
 use Rattle.chooser.specs.Cheapest.Least.{plan-within}
+use Rattle.chooser.specs.Cheapest.Signs.{plan-unsigned}
 use Rattle.chooser.specs.Call.Demand.{choice-promised, choice-question, cheapest-promised, cheapest-question}
 
 -- ── the plan ────────────────────────────────────────────────────────────────────────────────
@@ -32,7 +33,7 @@ module _ (k l : List ℕ) (limit : ℕ) where
   abbrev pub Chosen : Choice → Type 0
   Chosen a =
       (a ≡ choiceAnswer card k l limit)
-      × (ChoicePromised a (scalar k) (scalar l) limit × (choiceNumber a ≡ choiceQuestion card k l limit))
+      × (((k-sign l-sign : ℕ) → ChoicePromised a (signedScalar k k-sign) (signedScalar l l-sign) limit) × (choiceNumber a ≡ choiceQuestion card k l limit))
 
   chosen : {a : Choice} → a ≡ choiceAnswer card k l limit → Chosen a
   chosen e = rw e (refl, (choice-promised card k l limit, choice-question card k l limit))
@@ -45,33 +46,28 @@ module _ (k l : List ℕ) (limit : ℕ) where
   unfolding choiceAnswer
   no-limit e h = chosen (sym (rw (e, h)))
 
-  pub the-plan : (sized card k && sized card l) ≡ true → isLimit limit ≡ true → {p : Plan} → p ≡ cheapestPlan (scalar k) (scalar l) limit → Chosen (Choices.Is p)
+  pub the-plan : (sized card k && sized card l) ≡ true → isLimit limit ≡ true → {p : Plan} → p ≡ cheapestPlan (pos (scalar k)) (pos (scalar l)) limit → Chosen (Choices.Is p)
   unfolding choiceAnswer
   the-plan e h g = chosen (ap (λ (p : Plan). Choices.Is p) g ∙ sym (rw (e, h)))
 
 -- ── its sheet ───────────────────────────────────────────────────────────────────────────────
 
-module _ (k l buffer : List ℕ) (limit : ℕ) where
+module _ (k : List ℕ) (k-sign : ℕ) (l : List ℕ) (l-sign : ℕ) (buffer : List ℕ) (limit : ℕ) where
   -- what the call returns and leaves, where its answer is a
   abbrev pub Returned : Sheet → List ℕ → Type 0
   Returned a out =
-      (a ≡ cheapestAnswer card k l limit (length buffer))
-      × ((out ≡ cheapestBuffer card k l limit buffer)
-      × (Promised a out (scalar k) (scalar l) limit × (number a ≡ cheapestQuestion card k l limit (length buffer))))
+      (a ≡ cheapestAnswer card k k-sign l l-sign limit (length buffer))
+      × ((out ≡ cheapestBuffer card k k-sign l l-sign limit buffer)
+      × (Promised a out (signedScalar k k-sign) (signedScalar l l-sign) limit × (number a ≡ cheapestQuestion card k l limit (length buffer))))
 
   module _ (k-bytes : Bytes k) (l-bytes : Bytes l) where
-    bounds : (sized card k && sized card l) ≡ true → (scalar k < 2 ^ 528) × (scalar l < 2 ^ 528)
-    bounds e =
-        let (a, b) = both (sized card k) (sized card l) e in
-        (bounded k k-bytes a, bounded l l-bytes b)
-
     -- the promise goes with the answer and the buffer
-    promised : {a : Sheet} {out : List ℕ} → a ≡ cheapestAnswer card k l limit (length buffer) → out ≡ cheapestBuffer card k l limit buffer → Returned a out
-    promised e f = rw (e, f) (refl, (refl, (cheapest-promised k l limit buffer bounds, cheapest-question card k l limit (length buffer))))
+    promised : {a : Sheet} {out : List ℕ} → a ≡ cheapestAnswer card k k-sign l l-sign limit (length buffer) → out ≡ cheapestBuffer card k k-sign l l-sign limit buffer → Returned a out
+    promised e f = rw (e, f) (refl, (refl, (cheapest-promised k k-sign l l-sign limit buffer k-bytes l-bytes, cheapest-question k k-sign l l-sign card limit (length buffer))))
 
-    refused : (a : Sheet) → cheapestAnswer card k l limit (length buffer) ≡ a → Returned a (left a (cheapest (scalar k) (scalar l) limit) buffer)
+    refused : (a : Sheet) → cheapestAnswer card k k-sign l l-sign limit (length buffer) ≡ a → Returned a (left a (cheapest (signedScalar k k-sign) (signedScalar l l-sign) limit) buffer)
     unfolding cheapestBuffer
-    refused a e = promised (sym e) (sym (ap (λ (x : Sheet). left x (cheapest (scalar k) (scalar l) limit) buffer) e))
+    refused a e = promised (sym e) (sym (ap (λ (x : Sheet). left x (cheapest (signedScalar k k-sign) (signedScalar l l-sign) limit) buffer) e))
 
     pub not-scalars : (sized card k && sized card l) ≡ false → Returned BadScalar buffer
     unfolding cheapestAnswer
@@ -83,26 +79,27 @@ module _ (k l buffer : List ℕ) (limit : ℕ) where
       over-limit h = refused BadLimit (rw (sizes, h))
 
       -- a valid plan's call asks only for room
-      plan-answer : {p : Plan} → Valid p → planAnswer card p k l (length buffer) ≡ cond (roomy card (length buffer)) (wrote p k l) NoRoom
+      plan-answer : {p : Plan} → Valid p → planAnswer card p k k-sign l l-sign (length buffer) ≡ cond (roomy card (length buffer)) (wrote p (signedScalar k k-sign) (signedScalar l l-sign)) NoRoom
       unfolding jAnswer iAnswer
       plan-answer forJ = rw sizes
       plan-answer (forI v w) = rw (sizes, of-window v, of-window w)
 
-      plan-buffer : {p : Plan} → Valid p → planBuffer card p k l buffer ≡ left (planAnswer card p k l (length buffer)) (written p (scalar k) (scalar l)) buffer
+      plan-buffer : {p : Plan} → Valid p → planBuffer card p k k-sign l l-sign buffer ≡ left (planAnswer card p k k-sign l l-sign (length buffer)) (written p (signedScalar k k-sign) (signedScalar l l-sign)) buffer
       unfolding jBuffer iBuffer
       plan-buffer forJ = refl
       plan-buffer (forI v w) = refl
 
       module _ (low : isLimit limit ≡ true) where
-        answered : cheapestAnswer card k l limit (length buffer) ≡ planAnswer card (cheapestPlan (scalar k) (scalar l) limit) k l (length buffer)
+        answered : cheapestAnswer card k k-sign l l-sign limit (length buffer) ≡ planAnswer card (cheapestPlan (signedScalar k k-sign) (signedScalar l l-sign) limit) k k-sign l l-sign (length buffer)
         unfolding cheapestAnswer
-        answered = rw (sizes, low) (sym (plan-answer (plan-within (scalar k) (scalar l) limit .0)))
+        answered = rw (sizes, low) (sym (plan-answer (plan-within (signedScalar k k-sign) (signedScalar l l-sign) limit .0)))
 
-        pub by-plan : {a : Sheet} {out : List ℕ} {p : Plan} → p ≡ cheapestPlan (scalar k) (scalar l) limit
-            → a ≡ planAnswer card p k l (length buffer) → out ≡ planBuffer card p k l buffer → Returned a out
+        pub by-plan : {a : Sheet} {out : List ℕ} {p : Plan} → p ≡ cheapestPlan (pos (scalar k)) (pos (scalar l)) limit
+            → a ≡ planAnswer card p k k-sign l l-sign (length buffer) → out ≡ planBuffer card p k k-sign l l-sign buffer → Returned a out
         unfolding cheapestBuffer cheapest
         by-plan {p} g e f =
+            let h = g ∙ sym (plan-unsigned k k-sign l l-sign limit) in
             promised
-            (e ∙ ap (λ (q : Plan). planAnswer card q k l (length buffer)) g ∙ sym answered)
-            (f ∙ ap (λ (q : Plan). planBuffer card q k l buffer) g ∙ plan-buffer (plan-within (scalar k) (scalar l) limit .0)
-            ∙ ap (λ (x : Sheet). left x (written (cheapestPlan (scalar k) (scalar l) limit) (scalar k) (scalar l)) buffer) (sym answered))
+            (e ∙ ap (λ (q : Plan). planAnswer card q k k-sign l l-sign (length buffer)) h ∙ sym answered)
+            (f ∙ ap (λ (q : Plan). planBuffer card q k k-sign l l-sign buffer) h ∙ plan-buffer (plan-within (signedScalar k k-sign) (signedScalar l l-sign) limit .0)
+            ∙ ap (λ (x : Sheet). left x (written (cheapestPlan (signedScalar k k-sign) (signedScalar l l-sign) limit) (signedScalar k k-sign) (signedScalar l l-sign)) buffer) (sym answered))

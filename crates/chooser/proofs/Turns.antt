@@ -1,8 +1,8 @@
 -- The turns of the loop over the plans, and that for a plan within the limit the keys by sizes are those of the order.
-use mathlib.Core.Path.{_≡_, refl, sym, ap, ap₂, _∙_}
+use mathlib.Core.Path.{_≡_, sym, ap, ap₂, _∙_}
 use mathlib.Core.Bool.{cond}
 use mathlib.Core.List.{List, []}
-use Prim.Native.Nat.{ℕ, _+_, _-_, _*_, _/_, _^_, _≤_, _<_, max}
+use Prim.Native.Nat.{ℕ, _+_, _-_, _*_, _/_, _≤_, _<_, max}
 use native.Mathlib.Numerals.{add-one}
 use native.Mathlib.Omega.{arith}
 use borrow.Author.Tests.{le-leb}
@@ -23,7 +23,7 @@ use Rattle.written.specs.Written.Columns.{paired-weight, paired-length}
 use Rattle.written.specs.Written.{digits}
 use Rattle.chooser.specs.Cheapest.{cheapestPlan, keyWith, key, plans, within}
 use Rattle.chooser.specs.Body.Choice.{planWeight, planPlaces, costKey}
-use Rattle.chooser.specs.Cheapest.Least.{within-valid}
+use Rattle.chooser.specs.Cheapest.Least.{smallest, within-valid}
 use Rattle.chooser.specs.Cheapest.Lists.{within-in}
 use Rattle.chooser.specs.Candidate.Turns.{take-one}
 use Rattle.chooser.specs.Lexicographic.{better, least}
@@ -56,34 +56,30 @@ module _ (limit k l : ℕ) where
       let size : rowSize limit n (2 * ((m - 1) / 2) + 1) ≡ rowOf (row m (pos n)) = ap (rowSize limit n) e ∙ rw (le-leb (slots (I m 1)) limit h) in
       (at .0 ∙ ap (λ (s : Size). s .places) size, at .1 ∙ ap (λ (s : Size). s .weight) size)
 
-  plan-weighed : {p : Plan} → Valid p → slots p ≤ limit → planWeight p (rowSizes limit k) (rowSizes limit l) (jointSize limit k l) ≡ weight p (digits p k l)
+  plan-weighed : {p : Plan} → Valid p → slots p ≤ limit → planWeight p (rowSizes limit k) (rowSizes limit l) (jointSize limit k l) ≡ weight p (digits p (pos k) (pos l))
   unfolding digits
   plan-weighed forJ h = rw (le-leb (slots J) limit h)
   plan-weighed (forI {m1} {m2} v w) h =
       let s = window-slots m1 m2 (omega (arith, v .odd)) (omega (arith, w .odd)) in
       omega (arith, window-size k m1 v (omega arith) .1, window-size l m2 w (omega arith) .1, paired-weight (row m1 (pos k)) (row m2 (pos l)))
 
-  plan-placed : {p : Plan} → Valid p → slots p ≤ limit → planPlaces p (rowSizes limit k) (rowSizes limit l) (jointSize limit k l) ≡ length (digits p k l)
+  plan-placed : {p : Plan} → Valid p → slots p ≤ limit → planPlaces p (rowSizes limit k) (rowSizes limit l) (jointSize limit k l) ≡ length (digits p (pos k) (pos l))
   unfolding digits
   plan-placed forJ h = rw (le-leb (slots J) limit h)
   plan-placed (forI {m1} {m2} v w) h =
       let s = window-slots m1 m2 (omega (arith, v .odd)) (omega (arith, w .odd)) in
       ap₂ (λ (a b : ℕ). max a b) (window-size k m1 v (omega arith) .0) (window-size l m2 w (omega arith) .0) ∙ sym (paired-length (row m1 (pos k)) (row m2 (pos l)))
 
-  module _ (hk : k < 2 ^ 528) (hl : l < 2 ^ 528) where
-    key-agrees : (p : Plan) → Valid p → slots p ≤ limit → costKey (rowSizes limit k) (rowSizes limit l) (jointSize limit k l) p ≡ key k l p
-    unfolding costKey key
-    key-agrees p v h =
-        ap₂ (λ (a d : ℕ). keyWith a d p)
-        (ap (λ (w : ℕ). tableAdditions p + (w - 1)) (plan-weighed v h) ∙ sym (written-cost p k l v hk hl))
-        (ap (λ (n : ℕ). tableDoublings p + (n - 1)) (plan-placed v h) ∙ sym (written-doublings p k l v))
+  key-agrees : (p : Plan) → Valid p → slots p ≤ limit → costKey (rowSizes limit k) (rowSizes limit l) (jointSize limit k l) p ≡ key (pos k) (pos l) p
+  unfolding costKey key
+  key-agrees p v h =
+      ap₂ (λ (a d : ℕ). keyWith a d p)
+      (ap (λ (w : ℕ). tableAdditions p + (w - 1)) (plan-weighed v h) ∙ sym (written-cost p (pos k) (pos l) v))
+      (ap (λ (n : ℕ). tableDoublings p + (n - 1)) (plan-placed v h) ∙ sym (written-doublings p (pos k) (pos l) v))
 
-    -- the least plan by sizes is the cheapest
-    pub plan-by-sizes : least (costKey (rowSizes limit k) (rowSizes limit l) (jointSize limit k l)) (I 1 1) (within limit plans) ≡ cheapestPlan k l limit
-    unfolding cheapestPlan
-    plan-by-sizes =
-        least-agrees (costKey (rowSizes limit k) (rowSizes limit l) (jointSize limit k l)) (key k l) (I 1 1) (within limit plans)
-        (key-agrees (I 1 1) smallest (omega arith)) (λ p o. key-agrees p (within-valid limit o) (within-in limit plans o .1))
-      where
-        smallest : Valid (I 1 1)
-        smallest = forI {m1 = 1} {m2 = 1} (record { odd = refl; within = omega arith }) (record { odd = refl; within = omega arith })
+  -- the least plan by sizes is the cheapest
+  pub plan-by-sizes : least (costKey (rowSizes limit k) (rowSizes limit l) (jointSize limit k l)) (I 1 1) (within limit plans) ≡ cheapestPlan (pos k) (pos l) limit
+  unfolding cheapestPlan
+  plan-by-sizes =
+      least-agrees (costKey (rowSizes limit k) (rowSizes limit l) (jointSize limit k l)) (key (pos k) (pos l)) (I 1 1) (within limit plans)
+      (key-agrees (I 1 1) smallest (omega arith)) (λ p o. key-agrees p (within-valid limit o) (within-in limit plans o .1))

@@ -6,10 +6,11 @@ use mathlib.Core.Path.{_≡_}
 use mathlib.Core.Bool.{_&&_, cond}
 use mathlib.Core.List.{List, [], _∷_}
 use Prim.Native.Nat.{ℕ, _≤_}
+use lib.IntN.{ℤ, pos}
 use lib.ListN.{length, take}
 use Rattle.digits.specs.Limits.{Limits, card}
 use Rattle.digits.specs.Missed.{missed}
-use Rattle.digits.specs.Scalar.{scalar, sized}
+use Rattle.digits.specs.Scalar.{scalar, signedScalar, sized}
 use Rattle.sheet.specs.Answer.{Accepted, heading, sheetSlots, sheetAdditions}
 use Rattle.sheet.specs.Digits.{columns}
 use Rattle.sheet.specs.Line.{plan}
@@ -35,15 +36,15 @@ choiceNumber (Choices.Is p) = 0
 abbrev pub choiceQuestion : Limits → List ℕ → List ℕ → ℕ → ℕ
 choiceQuestion limits k l limit = missed ((1, sized limits k) ∷ (1, sized limits l) ∷ (4, isLimit limit) ∷ [])
 
--- the answer: the first question missed, or the plan
+-- the answer: the first question missed, or the plan, which the signs of the scalars do not change (`plan-signs`)
 unfoldable pub choiceAnswer : Limits → List ℕ → List ℕ → ℕ → Choice
 choiceAnswer limits k l limit =
     cond (sized limits k && sized limits l)
-    (cond (isLimit limit) (Choices.Is (cheapestPlan (scalar k) (scalar l) limit)) Choices.BadLimit)
+    (cond (isLimit limit) (Choices.Is (cheapestPlan (pos (scalar k)) (pos (scalar l)) limit)) Choices.BadLimit)
     Choices.BadScalar
 
 -- what the call promises: a plan comes before every other within the limit
-abbrev pub ChoicePromised : Choice → ℕ → ℕ → ℕ → Type 0
+abbrev pub ChoicePromised : Choice → ℤ → ℤ → ℕ → Type 0
 ChoicePromised Choices.BadScalar k l limit = Unit {0}
 ChoicePromised Choices.BadLimit k l limit = Unit {0}
 ChoicePromised (Choices.Is p) k l limit = First k l limit p
@@ -55,19 +56,19 @@ abbrev pub cheapestQuestion : Limits → List ℕ → List ℕ → ℕ → ℕ �
 cheapestQuestion limits k l limit room = missed ((1, sized limits k) ∷ (1, sized limits l) ∷ (4, isLimit limit) ∷ (3, roomy limits room) ∷ [])
 
 -- the answer: the first question missed, or the sheet
-unfoldable pub cheapestAnswer : Limits → List ℕ → List ℕ → ℕ → ℕ → Sheet
-cheapestAnswer limits k l limit room =
+unfoldable pub cheapestAnswer : Limits → List ℕ → ℕ → List ℕ → ℕ → ℕ → ℕ → Sheet
+cheapestAnswer limits k k-sign l l-sign limit room =
     cond (sized limits k && sized limits l)
-    (cond (isLimit limit) (cond (roomy limits room) (wrote (cheapestPlan (scalar k) (scalar l) limit) k l) NoRoom) BadLimit)
+    (cond (isLimit limit) (cond (roomy limits room) (wrote (cheapestPlan (signedScalar k k-sign) (signedScalar l l-sign) limit) (signedScalar k k-sign) (signedScalar l l-sign)) NoRoom) BadLimit)
     BadScalar
 
 -- the buffer after the call: the cheapest sheet, and behind it what was lent; as lent where a question was missed
-unfoldable pub cheapestBuffer : Limits → List ℕ → List ℕ → ℕ → List ℕ → List ℕ
-cheapestBuffer limits k l limit buffer =
-    left (cheapestAnswer limits k l limit (length buffer)) (cheapest (scalar k) (scalar l) limit) buffer
+unfoldable pub cheapestBuffer : Limits → List ℕ → ℕ → List ℕ → ℕ → ℕ → List ℕ → List ℕ
+cheapestBuffer limits k k-sign l l-sign limit buffer =
+    left (cheapestAnswer limits k k-sign l l-sign limit (length buffer)) (cheapest (signedScalar k k-sign) (signedScalar l l-sign) limit) buffer
 
 -- what demand 3 asks of a sheet s for k and l under a limit that is said to have a additions
-pub record Cheapest (s : List ℕ) (k l limit a : ℕ) : Type 0 where
+pub record Cheapest (s : List ℕ) (k l : ℤ) (limit a : ℕ) : Type 0 where
   -- its plan comes before every other within the limit, and its digits are 01's of that plan
   pub planned : First k l limit (plan (heading (lines card s)))
   pub digits-are : columns (lines card s) ≡ digits (plan (heading (lines card s))) k l
@@ -82,7 +83,7 @@ pub record Cheapest (s : List ℕ) (k l limit a : ℕ) : Type 0 where
   pub least : (t : List ℕ) → Accepted card t k l → sheetSlots card t ≤ limit → a ≤ sheetAdditions card t
 
 -- what the call promises: where it has written n bytes, they are such a sheet
-abbrev pub Promised : Sheet → List ℕ → ℕ → ℕ → ℕ → Type 0
+abbrev pub Promised : Sheet → List ℕ → ℤ → ℤ → ℕ → Type 0
 Promised BadScalar buffer k l limit = Unit {0}
 Promised BadWindow buffer k l limit = Unit {0}
 Promised NoRoom buffer k l limit = Unit {0}

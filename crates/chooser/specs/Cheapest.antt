@@ -1,13 +1,15 @@
--- The cheapest sheet for two scalars under a slot limit: the order of plans, and the first in it.
+-- The cheapest sheet for two signed scalars under a slot limit: the order of plans, and the first in it.
 pub mod Lists
 pub mod Order
 pub mod Least
+pub mod Signs
 pub mod Sheet
 use mathlib.Core.Path.{_≡_}
 use mathlib.Core.Logic.{_≢_, _⊎_}
 use mathlib.Core.Bool.{cond}
 use mathlib.Core.List.{List, [], _∷_, _++_, map}
 use Prim.Native.Nat.{ℕ, _≤_, _<_}
+use lib.IntN.{ℤ}
 use Rattle.sheet.specs.declared.Plan.{Plan}
 use Rattle.sheet.specs.declared.Plan.the-variants.{J, I}
 use Rattle.sheet.specs.Plan.{odds, slots, isWithin}
@@ -44,15 +46,15 @@ abbrev pub keyWith : ℕ → ℕ → Plan → List ℕ
 keyWith a d p = a ∷ d ∷ slots p ∷ rank p ∷ first p ∷ []
 
 -- the additions and doublings are those of the written sheet
-unfoldable pub key : ℕ → ℕ → Plan → List ℕ
+unfoldable pub key : ℤ → ℤ → Plan → List ℕ
 key k l p = keyWith (writtenAdditions p k l) (writtenDoublings p k l) p
 
 -- the cheapest plan within the limit; I 1, 1 needs no slot, so it is always one of them
-unfoldable pub cheapestPlan : ℕ → ℕ → ℕ → Plan
+unfoldable pub cheapestPlan : ℤ → ℤ → ℕ → Plan
 cheapestPlan k l limit = least (key k l) (I 1 1) (within limit plans)
 
 -- the order in words: p comes before q
-pub data Sooner (k l : ℕ) (p q : Plan) : Type 0 where
+pub data Sooner (k l : ℤ) (p q : Plan) : Type 0 where
   -- it has fewer additions
   fewer-additions : writtenAdditions p k l < writtenAdditions q k l → Sooner k l p q
   -- or as many, and fewer doublings
@@ -67,7 +69,7 @@ pub data Sooner (k l : ℕ) (p q : Plan) : Type 0 where
       → p ≢ J → q ≢ J → first p < first q → Sooner k l p q
 
 -- this is a total order on the plans of 01
-pub record Total (k l : ℕ) : Type 0 where
+pub record Total (k l : ℤ) : Type 0 where
   -- no plan comes before itself
   pub never-itself : (p : Plan) → Sooner k l p p → ⊥
   -- what comes before a plan comes before all that this one comes before
@@ -76,11 +78,11 @@ pub record Total (k l : ℕ) : Type 0 where
   pub one-first : (p q : Plan) → Valid p → Valid q → p ≢ q → Sooner k l p q ⊎ Sooner k l q p
 
 -- p is the first in this order: a plan of 01 within the limit that comes before every other
-pub record First (k l limit : ℕ) (p : Plan) : Type 0 where
+pub record First (k l : ℤ) (limit : ℕ) (p : Plan) : Type 0 where
   pub valid : Valid p
   pub within : slots p ≤ limit
   pub before-all : (q : Plan) → Valid q → slots q ≤ limit → q ≢ p → Sooner k l p q
 
 -- the cheapest sheet
-unfoldable pub cheapest : ℕ → ℕ → ℕ → List ℕ
+unfoldable pub cheapest : ℤ → ℤ → ℕ → List ℕ
 cheapest k l limit = written (cheapestPlan k l limit) k l

@@ -5,6 +5,7 @@ use mathlib.Core.List.{List, [], _∷_, List·Memᴰ}
 use Prim.Native.Nat.{ℕ}
 use Prim.Native.String.{String}
 use lib.Dec.{T}
+use lib.IntN.{ℤ, pos}
 use lib.ListN.{getD}
 use Rattle.digits.specs.Integer.{half}
 use Rattle.digits.specs.Scalar.{bitLength, bitLengthIn}
@@ -24,7 +25,7 @@ use Rattle.chooser.specs.Cheapest.{interleaved, plans, within, key, chea
 use Rattle.chooser.specs.Lexicographic.{before, least}
 
 -- the cheapest sheet, with every definition that it computes by
-unfoldable pub computed : ℕ → ℕ → ℕ → List ℕ
+unfoldable pub computed : ℤ → ℤ → ℕ → List ℕ
 unfolding Row.row Row.rowIn Row.digit Row.rest residue width bitLength bitLengthIn half Joint.joint Joint.jointIn Joint.column Joint.digit Joint.rest numeralIn numeral odds additions doublings moveLines sheetLines join spell cut paired digits addAll movesOf stepsOf writtenLines written writtenAdditions writtenDoublings interleaved plans within key cheapestPlan cheapest before least
 computed k l limit = cheapest k l limit
 
@@ -34,7 +35,7 @@ pub data Sample : Type 0 where
 
 -- what a sample says
 abbrev pub Says : Sample → Type 0
-Says (heads k l limit header) = getD (cut lineFeed (cheapest k l limit)) 0 [] ≡ ascii header
+Says (heads k l limit header) = getD (cut lineFeed (cheapest (pos k) (pos l) limit)) 0 [] ≡ ascii header
 
 abbrev pub samples : List Sample
 samples =
@@ -61,7 +62,7 @@ samples =
 
 -- the test of a sample
 abbrev sample : (s : Sample) → Test (Says s)
-sample (heads k l limit header) = sameList equal (getD (cut lineFeed (cheapest k l limit)) 0 []) (ascii header)
+sample (heads k l limit header) = sameList equal (getD (cut lineFeed (cheapest (pos k) (pos l) limit)) 0 []) (ascii header)
 
 table : T (everyOf sample samples .test)
 unfolding computed

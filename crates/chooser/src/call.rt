@@ -1,7 +1,8 @@
 ghost use mathlib.Core.Path.{_≡_};
+ghost use Prim.Native.Nat.{ℕ};
 ghost use lib.ListN.{length};
 ghost use Rattle.digits.specs.Limits.{card};
-ghost use Rattle.digits.specs.Scalar.{scalar};
+ghost use Rattle.digits.specs.Scalar.{signedScalar};
 ghost use Rattle.chooser.specs.Body.Choice.{planAnswer, planBuffer};
 ghost use Rattle.chooser.specs.Call.{choiceNumber, choiceQuestion, choiceAnswer, ChoicePromised, cheapestQuestion, cheapestAnswer, cheapestBuffer, Promised};
 ghost use Rattle.writer.specs.Call.{number};
@@ -9,13 +10,13 @@ use sheet::Plan;
 use writer::Sheet;
 
 // The sheet of a plan.
-fn sheet_of(plan: Plan, k: &[u8], l: &[u8], sheet: &mut [u8]) -> Sheet
-    ensures { λ r. ⌜ r ≡ planAnswer card plan (now (k .entry)) (now (l .entry)) (length (now (sheet .entry))) ⌝ }
-    ensures { λ _. ⌜ now (sheet .exit) ≡ planBuffer card plan (now (k .entry)) (now (l .entry)) (now (sheet .entry)) ⌝ }
+fn sheet_of(plan: Plan, k: &[u8], k_sign: u32, l: &[u8], l_sign: u32, sheet: &mut [u8]) -> Sheet
+    ensures { λ r. ⌜ r ≡ planAnswer card plan (now (k .entry)) «k_sign» (now (l .entry)) «l_sign» (length (now (sheet .entry))) ⌝ }
+    ensures { λ _. ⌜ now (sheet .exit) ≡ planBuffer card plan (now (k .entry)) «k_sign» (now (l .entry)) «l_sign» (now (sheet .entry)) ⌝ }
 {
     match plan {
-        Plan::J => writer::plan_j(k, l, sheet),
-        Plan::I(m1, m2) => writer::plan_i(k, l, m1, m2, sheet),
+        Plan::J => writer::plan_j(k, k_sign, l, l_sign, sheet),
+        Plan::I(m1, m2) => writer::plan_i(k, k_sign, l, l_sign, m1, m2, sheet),
     }
 }
 
@@ -29,10 +30,10 @@ pub enum Choice {
     Is(Plan),
 }
 
-// The plan of the cheapest sheet for k and l that needs no more slots than the limit.
+// The plan of the cheapest sheet for k and l that needs no more slots than the limit. The scalars' signs do not change it.
 pub fn cheapest_plan(k: &[u8], l: &[u8], limit: u32) -> Choice
     ensures answer { λ r. ⌜ r ≡ choiceAnswer card (now (k .entry)) (now (l .entry)) limit ⌝ }
-    ensures promised { λ r. ⌜ ChoicePromised r (scalar (now (k .entry))) (scalar (now (l .entry))) limit ⌝ }
+    ensures promised { λ r. ⌜ ((«k-sign» «l-sign» : ℕ) → ChoicePromised r (signedScalar (now (k .entry)) «k-sign») (signedScalar (now (l .entry)) «l-sign») limit) ⌝ }
     ensures question { λ r. ⌜ choiceNumber r ≡ choiceQuestion card (now (k .entry)) (now (l .entry)) limit ⌝ }
 {
     if digits::are_scalars(k, l) {
@@ -45,15 +46,15 @@ pub fn cheapest_plan(k: &[u8], l: &[u8], limit: u32) -> Choice
 }
 
 // The cheapest sheet for k and l that needs no more slots than the limit.
-pub fn cheapest(k: &[u8], l: &[u8], limit: u32, sheet: &mut [u8]) -> Sheet
-    ensures answer { λ r. ⌜ r ≡ cheapestAnswer card (now (k .entry)) (now (l .entry)) limit (length (now (sheet .entry))) ⌝ }
-    ensures buffer { λ _. ⌜ now (sheet .exit) ≡ cheapestBuffer card (now (k .entry)) (now (l .entry)) limit (now (sheet .entry)) ⌝ }
-    ensures promised { λ r. ⌜ Promised r (now (sheet .exit)) (scalar (now (k .entry))) (scalar (now (l .entry))) limit ⌝ }
+pub fn cheapest(k: &[u8], k_sign: u32, l: &[u8], l_sign: u32, limit: u32, sheet: &mut [u8]) -> Sheet
+    ensures answer { λ r. ⌜ r ≡ cheapestAnswer card (now (k .entry)) «k_sign» (now (l .entry)) «l_sign» limit (length (now (sheet .entry))) ⌝ }
+    ensures buffer { λ _. ⌜ now (sheet .exit) ≡ cheapestBuffer card (now (k .entry)) «k_sign» (now (l .entry)) «l_sign» limit (now (sheet .entry)) ⌝ }
+    ensures promised { λ r. ⌜ Promised r (now (sheet .exit)) (signedScalar (now (k .entry)) «k_sign») (signedScalar (now (l .entry)) «l_sign») limit ⌝ }
     ensures question { λ r. ⌜ number r ≡ cheapestQuestion card (now (k .entry)) (now (l .entry)) limit (length (now (sheet .entry))) ⌝ }
 {
     match cheapest_plan(k, l, limit) {
         Choice::BadScalar => Sheet::BadScalar,
         Choice::BadLimit => Sheet::BadLimit,
-        Choice::Is(plan) => sheet_of(plan, k, l, sheet),
+        Choice::Is(plan) => sheet_of(plan, k, k_sign, l, l_sign, sheet),
     }
 }

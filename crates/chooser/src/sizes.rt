@@ -8,7 +8,7 @@ ghost use Rattle.forms.specs.Row.{row};
 ghost use Rattle.chooser.specs.Body.Sizes.{rowOf, columnsOf, rowSize, rowSizes, jointSize};
 use sheet::Plan;
 
-// How many places a row or a joint form has, and how many of them are not zero.
+// How many places a row or a joint form has, and how many of them are not zero; the scalars' signs change neither.
 pub struct Size {
     pub places: u32,
     pub weight: u32,
@@ -20,7 +20,7 @@ fn row_size(bytes: &[u8], m: u32, digits: &mut [u8]) -> Size
     requires { ⌜ 8 * length (now bytes) + 1 ≤ length (now digits) ⌝ }
     ensures { λ r. ⌜ r ≡ rowOf (row m (pos (scalar (now (bytes .entry))))) ⌝ }
 {
-    let answer = recode::row(bytes, m, digits);
+    let answer = recode::row(bytes, 0, m, digits);
     Size {
         places: answer.places() as u32,
         weight: answer.weight() as u32,
@@ -67,7 +67,7 @@ fn joint_size(k: &[u8], l: &[u8]) -> Size
 {
     let mut k_digits = [0u8; 529];
     let mut l_digits = [0u8; 529];
-    let answer = recode::joint(k, l, &mut k_digits, &mut l_digits);
+    let answer = recode::joint(k, 0, l, 0, &mut k_digits, &mut l_digits);
     Size {
         places: answer.places() as u32,
         weight: answer.weight() as u32,

@@ -13,7 +13,8 @@ use lib.ListN.{length, getD, set, replicate, length-append, length-replicate, Li
 use lib.Seq.{append-snoc, set-at, ext-getD}
 use Rattle.digits.specs.Buffer.Zeros.{padded-at}
 use Rattle.digits.specs.Byte.{byteOf}
-use Rattle.digits.specs.Scalar.{Bytes, scalar}
+use Rattle.digits.specs.Scalar.{Bytes, signedScalar, bitLength}
+use Rattle.digits.specs.Scalar.Signed.{scalar-size}
 use Rattle.digits.specs.Scalar.Value.{length-bytes}
 use Rattle.digits.specs.Column.Length.{row-length}
 use Rattle.digits.specs.Two.{Two, other, two}
@@ -124,15 +125,23 @@ module _ (k l : ℤ) (r : Two) (buffer : List ℕ) (places : ℕ) (few : length 
       ∙ sym (padded-at (codes k l r) (length out - length (codes k l r)) i))
 
 -- what `write_codes` asks of a row that a joint call left, and what it then leaves
-module _ (s t : List ℕ) (r : Two) (places : ℕ) (buffer row out : List ℕ) (s-bytes : Bytes s) (t-bytes : Bytes t)
-    (enough : places ≡ 8 * max (length s) (length t) + 1) (written : row ≡ filled (digitsOf r s t) buffer) (room : places ≤ length out) where
-  few : length (joint (pos (scalar s)) (pos (scalar t))) ≤ places
-  few = omega (arith, joint-length (scalar s) (scalar t), length-bytes s s-bytes, length-bytes t t-bytes)
+module _ (s : List ℕ) (s-sign : ℕ) (t : List ℕ) (t-sign : ℕ) (r : Two) (places : ℕ) (buffer row out : List ℕ) (s-bytes : Bytes s) (t-bytes : Bytes t)
+    (enough : places ≡ 8 * max (length s) (length t) + 1) (written : row ≡ filled (digitsOf r s s-sign t t-sign) buffer) (room : places ≤ length out) where
+  few : length (joint (signedScalar s s-sign) (signedScalar t t-sign)) ≤ places
+  few =
+      omega (
+        arith,
+        joint-length (signedScalar s s-sign) (signedScalar t t-sign),
+        ap bitLength (scalar-size s s-sign),
+        ap bitLength (scalar-size t t-sign),
+        length-bytes s s-bytes,
+        length-bytes t t-bytes,
+      )
 
   pub asks : places ≤ length row → (places ≤ length row) × ((places ≤ length out) × (getD row places 0 ≡ 0))
   asks h =
-      (h, (room, rw written (above (digitsOf r s t) buffer places (omega (arith, few, row-length two r (joint (pos (scalar s)) (pos (scalar t))))))))
+      (h, (room, rw written (above (digitsOf r s s-sign t t-sign) buffer places (omega (arith, few, row-length two r (joint (signedScalar s s-sign) (signedScalar t t-sign)))))))
 
-  pub leaves : (out′ : List ℕ) → out′ ≡ coded (byteCodes row places) out → out′ ≡ coded (codesOf r s t) out
+  pub leaves : (out′ : List ℕ) → out′ ≡ coded (byteCodes row places) out → out′ ≡ coded (codesOf r s s-sign t t-sign) out
   leaves out′ e =
-      e ∙ ap (λ (b : List ℕ). coded (byteCodes b places) out) written ∙ coded-joint (pos (scalar s)) (pos (scalar t)) r buffer places few out room
+      e ∙ ap (λ (b : List ℕ). coded (byteCodes b places) out) written ∙ coded-joint (signedScalar s s-sign) (signedScalar t t-sign) r buffer places few out room

@@ -12,7 +12,7 @@ use lib.ListN.{length, getD, replicate}
 use Rattle.digits.specs.Buffer.{rowBelow, columnsBelow}
 use Rattle.digits.specs.Limits.{Limits}
 use Rattle.digits.specs.Missed.{missed}
-use Rattle.digits.specs.Scalar.{scalar, sized}
+use Rattle.digits.specs.Scalar.{signedScalar, sized}
 use Rattle.digits.specs.Two.{Two, other, of}
 use Rattle.forms.specs.Codes.{Leaves, remainder, Held, digitBy, codes}
 use Rattle.recode.specs.Call.{roomy, left, jointAnswer, JointOf}
@@ -36,13 +36,13 @@ ifRoomy met NoRoom = NoRoom
 ifRoomy met (Written n w) = cond met (Written n w) NoRoom
 
 -- the answer: that of a joint form, where the code buffers are roomy
-unfoldable pub codesAnswer : Limits → List ℕ → List ℕ → ℕ → ℕ → ℕ → ℕ → Recoded
-codesAnswer limits s t places places′ room room′ =
-    ifRoomy (roomy (max (length s) (length t)) room && roomy (max (length s) (length t)) room′) (jointAnswer limits s t places places′)
+unfoldable pub codesAnswer : Limits → List ℕ → ℕ → List ℕ → ℕ → ℕ → ℕ → ℕ → ℕ → Recoded
+codesAnswer limits s s-sign t t-sign places places′ room room′ =
+    ifRoomy (roomy (max (length s) (length t)) room && roomy (max (length s) (length t)) room′) (jointAnswer limits s s-sign t t-sign places places′)
 
 -- the codes of one row of the joint form of two scalars
-abbrev pub codesOf : Two → List ℕ → List ℕ → List ℕ
-codesOf r s t = codes (pos (scalar s)) (pos (scalar t)) r
+abbrev pub codesOf : Two → List ℕ → ℕ → List ℕ → ℕ → List ℕ
+codesOf r s s-sign t t-sign = codes (signedScalar s s-sign) (signedScalar t t-sign) r
 
 -- a buffer with the codes from place 0 on, and 0 at the unused places
 abbrev pub coded : List ℕ → List ℕ → List ℕ
@@ -55,15 +55,15 @@ leftCodes BadWindow ns buffer = buffer
 leftCodes NoRoom ns buffer = buffer
 leftCodes (Written n w) ns buffer = coded ns buffer
 
-module _ (limits : Limits) (r : Two) (s t k l k-codes l-codes : List ℕ) where
+module _ (limits : Limits) (r : Two) (s : List ℕ) (s-sign : ℕ) (t : List ℕ) (t-sign : ℕ) (k l k-codes l-codes : List ℕ) where
   -- one of the two digit buffers
   unfoldable pub codesDigits : List ℕ
-  codesDigits = left (codesAnswer limits s t (length k) (length l) (length k-codes) (length l-codes)) (digitsOf r s t) (of k l r)
+  codesDigits = left (codesAnswer limits s s-sign t t-sign (length k) (length l) (length k-codes) (length l-codes)) (digitsOf r s s-sign t t-sign) (of k l r)
 
   -- one of the two code buffers
   unfoldable pub codesBuffer : List ℕ
   codesBuffer =
-      leftCodes (codesAnswer limits s t (length k) (length l) (length k-codes) (length l-codes)) (codesOf r s t) (of k-codes l-codes r)
+      leftCodes (codesAnswer limits s s-sign t t-sign (length k) (length l) (length k-codes) (length l-codes)) (codesOf r s s-sign t t-sign) (of k-codes l-codes r)
 
 -- what is promised of the codes ns of two rows ds for k and l, at every place i, also above the top
 pub record CodesOf (k l : ℤ) (ds : Two → List ℤ) (ns : Two → List ℕ) : Type 0 where
@@ -75,9 +75,9 @@ pub record CodesOf (k l : ℤ) (ds : Two → List ℤ) (ns : Two → List ℕ) :
   pub follows : (r : Two) (i : ℕ) → getD (ds r) i (pos 0) ≡ digitBy (getD (ns r) i 0) (remainder (of k l r) (ds r) i)
 
 -- where n places were written, the columns below n are those of a joint form, and the code buffers hold their codes
-abbrev pub CodesPromised : ℕ → ℕ → Recoded → List ℕ → List ℕ → List ℕ → List ℕ → Type 0
+abbrev pub CodesPromised : ℤ → ℤ → Recoded → List ℕ → List ℕ → List ℕ → List ℕ → Type 0
 CodesPromised k l BadScalar buffer buffer′ ns ns′ = Unit {0}
 CodesPromised k l BadWindow buffer buffer′ ns ns′ = Unit {0}
 CodesPromised k l NoRoom buffer buffer′ ns ns′ = Unit {0}
 CodesPromised k l (Written n w) buffer buffer′ ns ns′ =
-    JointOf k l w (columnsBelow n buffer buffer′) × CodesOf (pos k) (pos l) (λ r. rowBelow n (of buffer buffer′ r)) (of ns ns′)
+    JointOf k l w (columnsBelow n buffer buffer′) × CodesOf k l (λ r. rowBelow n (of buffer buffer′ r)) (of ns ns′)

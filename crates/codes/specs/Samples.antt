@@ -4,7 +4,7 @@ use mathlib.Core.Path.{_≡_}
 use mathlib.Core.List.{List, [], _∷_, map, List·Memᴰ}
 use Prim.Native.Nat.{ℕ}
 use lib.Dec.{T}
-use lib.IntN.{pos}
+use lib.IntN.{ℤ, pos, negℤ}
 use lib.ListN.{length, replicate}
 use Rattle.digits.specs.Column
 use Rattle.digits.specs.Integer.{half}
@@ -19,14 +19,14 @@ use Rattle.codes.specs.Call.{codesQuestion}
 
 pub data Sample : Type 0 where
   -- one row of the joint form of k and l, from place 0: the remainders and their codes
-  row : (k l : ℕ) (r : Two) (remainders ns : List ℕ) → Sample
+  row : (k l : ℤ) (r : Two) (remainders : List ℤ) (ns : List ℕ) → Sample
   -- the number that the call answers
   answers : (told number : ℕ) → Sample
 
 -- what a sample says
 abbrev pub Says : Sample → Type 0
 Says (row k l r remainders ns) =
-    (below (remainderAt (pos k) (pos l) r) (length (joint (pos k) (pos l))) ≡ map pos remainders) × (codes (pos k) (pos l) r ≡ ns)
+    (below (remainderAt k l r) (length (joint k l)) ≡ remainders) × (codes k l r ≡ ns)
 Says (answers told number) = told ≡ number
 
 -- a scalar of n bytes
@@ -35,13 +35,16 @@ bytes n = replicate n 0
 
 abbrev pub samples : List Sample
 samples =
-    row 13 10 P (13 ∷ 7 ∷ 4 ∷ 2 ∷ 1 ∷ []) (2 ∷ 1 ∷ 0 ∷ 0 ∷ 1 ∷ [])
-    ∷ row 13 10 Q (10 ∷ 5 ∷ 2 ∷ 1 ∷ 0 ∷ []) (0 ∷ 1 ∷ 0 ∷ 1 ∷ 0 ∷ [])
-    ∷ row 7 2 P (7 ∷ 4 ∷ 2 ∷ 1 ∷ []) (1 ∷ 0 ∷ 0 ∷ 1 ∷ [])
-    ∷ row 7 2 Q (2 ∷ 1 ∷ 0 ∷ 0 ∷ []) (0 ∷ 1 ∷ 0 ∷ 0 ∷ [])
-    ∷ row 3 2 P (3 ∷ 1 ∷ []) (2 ∷ 1 ∷ [])
-    ∷ row 3 2 Q (2 ∷ 1 ∷ []) (0 ∷ 1 ∷ [])
-    ∷ row 0 0 P [] []
+    row (pos 13) (pos 10) P (map pos (13 ∷ 7 ∷ 4 ∷ 2 ∷ 1 ∷ [])) (2 ∷ 1 ∷ 0 ∷ 0 ∷ 1 ∷ [])
+    ∷ row (pos 13) (pos 10) Q (map pos (10 ∷ 5 ∷ 2 ∷ 1 ∷ 0 ∷ [])) (0 ∷ 1 ∷ 0 ∷ 1 ∷ 0 ∷ [])
+    ∷ row (pos 7) (pos 2) P (map pos (7 ∷ 4 ∷ 2 ∷ 1 ∷ [])) (1 ∷ 0 ∷ 0 ∷ 1 ∷ [])
+    ∷ row (pos 7) (pos 2) Q (map pos (2 ∷ 1 ∷ 0 ∷ 0 ∷ [])) (0 ∷ 1 ∷ 0 ∷ 0 ∷ [])
+    ∷ row (pos 3) (pos 2) P (map pos (3 ∷ 1 ∷ [])) (2 ∷ 1 ∷ [])
+    ∷ row (pos 3) (pos 2) Q (map pos (2 ∷ 1 ∷ [])) (0 ∷ 1 ∷ [])
+    -- a minus turns the remainders of its own row, and no code
+    ∷ row (negℤ (pos 13)) (pos 10) P (map negℤ (map pos (13 ∷ 7 ∷ 4 ∷ 2 ∷ 1 ∷ []))) (2 ∷ 1 ∷ 0 ∷ 0 ∷ 1 ∷ [])
+    ∷ row (negℤ (pos 13)) (pos 10) Q (map pos (10 ∷ 5 ∷ 2 ∷ 1 ∷ 0 ∷ [])) (0 ∷ 1 ∷ 0 ∷ 1 ∷ 0 ∷ [])
+    ∷ row (pos 0) (pos 0) P [] []
     -- 1 of the second scalar and 3 missed, 3 of a row and of the codes, 3 of the first and of the second code buffer by the longer scalar, none
     ∷ answers (codesQuestion card (bytes 66) (bytes 0) 0 0 0 0) 1
     ∷ answers (codesQuestion card (bytes 66) (bytes 67) 529 529 0 0) 1
@@ -54,8 +57,8 @@ samples =
 -- the test of a sample
 abbrev sample : (s : Sample) → Test (Says s)
 sample (row k l r remainders ns) =
-    both (sameList same (below (remainderAt (pos k) (pos l) r) (length (joint (pos k) (pos l)))) (map pos remainders))
-    (sameList equal (codes (pos k) (pos l) r) ns)
+    both (sameList same (below (remainderAt k l r) (length (joint k l))) remainders)
+    (sameList equal (codes k l r) ns)
 sample (answers told number) = equal told number
 
 table : T (everyOf sample samples .test)

@@ -1,9 +1,11 @@
--- Whole numbers: their two parts, division by a natural number, and halving.
+-- Whole numbers: their two parts, their sign, division by a natural number, and halving.
 pub mod Parts
 pub mod Congruent
 pub mod Machine
-use Prim.Native.Nat.{ℕ, suc, _-_, _/_, _%_}
-use lib.IntN.{ℤ, pos, negsuc}
+pub mod Sign
+use mathlib.Core.Bool.{Bool, true, false}
+use Prim.Native.Nat.{ℕ, zero, suc, _-_, _/_, _%_}
+use lib.IntN.{ℤ, pos, negsuc, negℤ}
 
 -- what z has above 0, and below it
 abbrev pub up : ℤ → ℕ
@@ -13,6 +15,16 @@ up (negsuc n) = 0
 abbrev pub down : ℤ → ℕ
 down (pos n) = 0
 down (negsuc n) = suc n
+
+-- z with a sign: 0 is plus and leaves it, any other number is minus and negates it
+abbrev pub signedBy : ℕ → ℤ → ℤ
+signedBy zero z = z
+signedBy (suc n) z = negℤ z
+
+-- z is below 0
+abbrev pub isNegative : ℤ → Bool
+isNegative (pos n) = false
+isNegative (negsuc n) = true
 
 -- z divided by M, rounded down, and the remainder, from 0 to M − 1
 abbrev pub quo : ℤ → ℕ → ℤ

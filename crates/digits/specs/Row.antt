@@ -3,6 +3,7 @@ pub mod Parts
 pub mod Adding
 pub mod Weight
 pub mod Window
+pub mod Sign
 use mathlib.Core.Path.{_≡_}
 use mathlib.Core.Bool.{Bool, _&&_}
 use mathlib.Core.List.{List, [], _∷_}

@@ -1,13 +1,16 @@
--- Scalars: unsigned numbers in bytes, the most significant first, and their bit length.
+-- Scalars: numbers in bytes, the most significant first, with a sign beside them, and their bit length.
 pub mod Length
 pub mod Value
 pub mod Sized
+pub mod Signed
 use mathlib.Core.Path.{_≡_}
 use mathlib.Core.Bool.{Bool, _&&_}
 use mathlib.Core.List.{List, [], _∷_, reverse}
 use Prim.Native.Nat.{ℕ, zero, suc, _+_, _*_, _/_, _≤_, _<_}
 use lib.Dec.{ltb, leb}
+use lib.IntN.{ℤ, pos}
 use lib.ListN.{length, getD}
+use Rattle.digits.specs.Integer.{signedBy}
 use Rattle.digits.specs.Limits.{Limits}
 
 -- every element is a byte
@@ -19,9 +22,13 @@ unfoldable pub little : List ℕ → ℕ
 little [] = 0
 little (b ∷ bs) = b + 256 * little bs
 
--- the scalar of a list of bytes
+-- the number of a scalar's bytes
 unfoldable pub scalar : List ℕ → ℕ
 scalar s = little (reverse s)
+
+-- the whole number of a scalar's bytes and of the sign beside them; zero bytes are zero with either sign
+unfoldable pub signedScalar : List ℕ → ℕ → ℤ
+signedScalar s sign = signedBy sign (pos (scalar s))
 
 -- question 1: a scalar has 1 to 66 bytes
 abbrev pub sized : Limits → List ℕ → Bool

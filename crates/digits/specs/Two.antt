@@ -1,4 +1,5 @@
 -- Columns of two rows: the digits of k, which go with P, over those of l, which go with Q.
+pub mod Sign
 use mathlib.Core.Path.{_≡_, refl, sym, ap}
 use mathlib.Core.Logic.{_≢_, ⊎-elim}
 use mathlib.Core.Bool.{Bool, true, false, not, _&&_}

@@ -1,7 +1,8 @@
 ghost use mathlib.Core.Path.{_≡_};
 ghost use mathlib.Core.Bool.{_&&_};
+ghost use Rattle.digits.specs.Integer.{isNegative};
 ghost use Rattle.digits.specs.Limits.{card};
-ghost use Rattle.digits.specs.Scalar.{sized};
+ghost use Rattle.digits.specs.Scalar.{signedScalar, sized};
 
 // The most bytes of a scalar.
 const MOST_BYTES: usize = 66;
@@ -14,6 +15,16 @@ pub fn is_scalar(bytes: &[u8]) -> bool
         return false;
     }
     bytes.len() <= MOST_BYTES
+}
+
+// Whether a scalar is negative: it has a minus sign, and is not 0.
+pub fn is_negative(bytes: &[u8], sign: u32) -> bool
+    ensures { λ r. ⌜ r ≡ isNegative (signedScalar (now (bytes .entry)) sign) ⌝ }
+{
+    if sign != 0 {
+        return crate::length::bit_length(bytes).top != 0;
+    }
+    false
 }
 
 // Question 1 of both scalars.

@@ -5,6 +5,7 @@ pub mod Rule
 pub mod Place
 pub mod Next
 pub mod Listed
+pub mod Negated
 use mathlib.Core.Path.{_≡_}
 use mathlib.Core.Logic.{_↔_, _⊎_}
 use mathlib.Core.Bool.{cond}

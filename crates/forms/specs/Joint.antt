@@ -6,6 +6,7 @@ pub mod Triple
 pub mod Sparse
 pub mod Unique
 pub mod Fewest
+pub mod Negated
 pub mod Length
 pub mod Zeros
 use mathlib.Core.Path.{_≡_}

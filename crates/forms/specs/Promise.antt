@@ -2,10 +2,11 @@
 -- NonAdjacent, Joint and Codes and of digits; the proofs are in the files that the answers name.
 use mathlib.Core.Path.{_≡_}
 use mathlib.Core.Logic.{_≢_, _↔_}
-use mathlib.Core.List.{List}
+use mathlib.Core.List.{List, map}
 use Prim.Native.Nat.{ℕ, suc, _+_, _-_, _%_, _^_, _≤_, _<_, max}
-use lib.IntN.{ℤ, pos, _+ℤ_, _*ℤ_, natAbs}
+use lib.IntN.{ℤ, pos, _+ℤ_, _*ℤ_, negℤ, natAbs}
 use lib.ListN.{length, getD, take}
+use Rattle.digits.specs.Integer.{signedBy}
 use Rattle.digits.specs.Row.{value, weight, Over}
 use Rattle.digits.specs.Column as Columns
 use Rattle.digits.specs.Scalar.{bitLength}
@@ -19,6 +20,7 @@ use Rattle.forms.specs.Residue.Only as ResidueOnly
 use Rattle.forms.specs.Residue.Width as Width
 use Rattle.forms.specs.Row.Only as RowOnly
 use Rattle.forms.specs.Row.Value as RowValue
+use Rattle.forms.specs.Row.Negated as RowNegated
 use Rattle.forms.specs.Row.Length as RowLength
 use Rattle.forms.specs.Row.Fewest as RowFewest
 use Rattle.forms.specs.NonAdjacent.Row as NonAdjacentRow
@@ -26,9 +28,11 @@ use Rattle.forms.specs.Joint.Value as JointValue
 use Rattle.forms.specs.Joint.Sparse as JointKeeps
 use Rattle.forms.specs.Joint.Unique as JointUnique
 use Rattle.forms.specs.Joint.Fewest as JointFewest
+use Rattle.forms.specs.Joint.Negated as JointNegated
 use Rattle.forms.specs.Joint.Length as JointLength
 use Rattle.forms.specs.Codes.Place as CodesPlace
 use Rattle.forms.specs.Codes.Listed as CodesListed
+use Rattle.forms.specs.Codes.Negated as CodesNegated
 
 -- ── One row, for every window m ─────────────────────────────────────────────────────────────
 
@@ -63,7 +67,7 @@ pub row-top : (m : ℕ) (c : ℤ) → 1 ≤ m → (i : ℕ) → length (row m c)
 row-top = RowValue.row-top
 
 -- it never has more places than the scalar's bit length plus one
-pub row-length : (m n : ℕ) → 1 ≤ m → length (row m (pos n)) ≤ bitLength n + 1
+pub row-length : (m : ℕ) (c : ℤ) → 1 ≤ m → length (row m c) ≤ bitLength (natAbs c) + 1
 row-length = RowLength.row-length
 
 -- no row over the same digits has fewer non-zero ones
@@ -94,7 +98,7 @@ pub joint-top : (k l : ℤ) → Topped (joint k l)
 joint-top = JointValue.joint-top
 
 -- it uses at most one place more than the longer bit length
-pub joint-length : (k l : ℕ) → length (joint (pos k) (pos l)) ≤ max (bitLength k) (bitLength l) + 1
+pub joint-length : (k l : ℤ) → length (joint k l) ≤ max (bitLength (natAbs k)) (bitLength (natAbs l)) + 1
 joint-length = JointLength.joint-length
 
 -- a column list that keeps the rules with a non-zero top is the joint form of its values
@@ -129,3 +133,32 @@ codes-held = CodesListed.codes-held
 -- and the digit follows from its code and the remainder
 pub codes-digits : (k l : ℤ) (r : Two) (i : ℕ) → getD (digits k l r) i (pos 0) ≡ digitBy (getD (codes k l r) i 0) (remainderAt k l r i)
 codes-digits = CodesListed.codes-digits
+
+-- ── Numbers with a sign ─────────────────────────────────────────────────────────────────────
+
+-- the row of a negated number has each digit negated
+pub row-negates : (m : ℕ) (c : ℤ) → 1 ≤ m → row m (negℤ c) ≡ map negℤ (row m c)
+row-negates = RowNegated.row-negates
+
+pub row-signed : (m sign : ℕ) (c : ℤ) → 1 ≤ m → row m (signedBy sign c) ≡ map (signedBy sign) (row m c)
+row-signed = RowNegated.row-signed
+
+-- so its length and its weight are those of the number's size
+pub row-size : (m : ℕ) (c : ℤ) → 1 ≤ m
+    → (length (row m c) ≡ length (row m (pos (natAbs c)))) × (weight (row m c) ≡ weight (row m (pos (natAbs c))))
+row-size = RowNegated.row-size
+
+-- the rows of a joint form negate singly, each with its own number
+pub joint-negates : (k l : ℤ) (k-sign l-sign : ℕ) (r : Two)
+    → Columns.row two r (joint (signedBy k-sign k) (signedBy l-sign l)) ≡ map (signedBy (of k-sign l-sign r)) (Columns.row two r (joint k l))
+joint-negates = JointNegated.joint-negates
+
+-- so its length and its weight are those of the numbers' sizes
+pub joint-size : (k l : ℤ)
+    → (length (joint k l) ≡ length (joint (pos (natAbs k)) (pos (natAbs l))))
+    × (Columns.weight two (joint k l) ≡ Columns.weight two (joint (pos (natAbs k)) (pos (natAbs l))))
+joint-size = JointNegated.joint-size
+
+-- and its codes do not change
+pub codes-negate : (k l : ℤ) (k-sign l-sign : ℕ) (r : Two) → codes (signedBy k-sign k) (signedBy l-sign l) r ≡ codes k l r
+codes-negate = CodesNegated.codes-negate

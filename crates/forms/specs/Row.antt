@@ -5,6 +5,7 @@ pub mod OddDigit
 pub mod Only
 pub mod Value
 pub mod Natural
+pub mod Negated
 pub mod Length
 pub mod Fewest
 use mathlib.Core.Path.{_≡_}

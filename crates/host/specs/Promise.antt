@@ -74,30 +74,30 @@ sheet-parts s h =
     record { number-is = above (Writing.number s) h; length-is = below (Writing.number s) h; additions-are = between (Writing.number s) h }
 
 -- a row
-pub row-parts : (s : List ℕ) (m places : ℕ) → Bytes s → RecodedParts (rowAnswer card s m places)
-row-parts s m places h = recoded-parts (rowAnswer card s m places) (row-fits s m places h)
+pub row-parts : (s : List ℕ) (sign m places : ℕ) → Bytes s → RecodedParts (rowAnswer card s sign m places)
+row-parts s sign m places h = recoded-parts (rowAnswer card s sign m places) (row-fits s sign m places h)
 
 -- a joint form
-pub joint-parts : (k l : List ℕ) (places places′ : ℕ) → Bytes k → Bytes l → RecodedParts (jointAnswer card k l places places′)
-joint-parts k l places places′ h g = recoded-parts (jointAnswer card k l places places′) (joint-fits k l places places′ h g)
+pub joint-parts : (k : List ℕ) (k-sign : ℕ) (l : List ℕ) (l-sign : ℕ) (places places′ : ℕ) → Bytes k → Bytes l → RecodedParts (jointAnswer card k k-sign l l-sign places places′)
+joint-parts k k-sign l l-sign places places′ h g = recoded-parts (jointAnswer card k k-sign l l-sign places places′) (joint-fits k k-sign l l-sign places places′ h g)
 
 -- with its codes
-pub codes-parts : (k l : List ℕ) (places places′ room room′ : ℕ) → Bytes k → Bytes l → RecodedParts (codesAnswer card k l places places′ room room′)
-codes-parts k l places places′ room room′ h g =
-    recoded-parts (codesAnswer card k l places places′ room room′) (codes-fits k l places places′ room room′ h g)
+pub codes-parts : (k : List ℕ) (k-sign : ℕ) (l : List ℕ) (l-sign : ℕ) (places places′ room room′ : ℕ) → Bytes k → Bytes l → RecodedParts (codesAnswer card k k-sign l l-sign places places′ room room′)
+codes-parts k k-sign l l-sign places places′ room room′ h g =
+    recoded-parts (codesAnswer card k k-sign l l-sign places places′ room room′) (codes-fits k k-sign l l-sign places places′ room room′ h g)
 
-module _ (k l : List ℕ) (k-bytes : Bytes k) (l-bytes : Bytes l) where
+module _ (k : List ℕ) (k-sign : ℕ) (l : List ℕ) (l-sign : ℕ) (k-bytes : Bytes k) (l-bytes : Bytes l) where
   -- the sheet of plan J
-  pub j-parts : (room : ℕ) → SheetParts (jAnswer card k l room)
-  j-parts room = sheet-parts (jAnswer card k l room) (j-fits k l k-bytes l-bytes room)
+  pub j-parts : (room : ℕ) → SheetParts (jAnswer card k k-sign l l-sign room)
+  j-parts room = sheet-parts (jAnswer card k k-sign l l-sign room) (j-fits k k-sign l l-sign k-bytes l-bytes room)
 
   -- of plan I
-  pub i-parts : (m1 m2 room : ℕ) → SheetParts (iAnswer card k l m1 m2 room)
-  i-parts m1 m2 room = sheet-parts (iAnswer card k l m1 m2 room) (i-fits k l k-bytes l-bytes m1 m2 room)
+  pub i-parts : (m1 m2 room : ℕ) → SheetParts (iAnswer card k k-sign l l-sign m1 m2 room)
+  i-parts m1 m2 room = sheet-parts (iAnswer card k k-sign l l-sign m1 m2 room) (i-fits k k-sign l l-sign k-bytes l-bytes m1 m2 room)
 
   -- the cheapest
-  pub cheapest-parts : (limit room : ℕ) → SheetParts (cheapestAnswer card k l limit room)
-  cheapest-parts limit room = sheet-parts (cheapestAnswer card k l limit room) (cheapest-fits k l k-bytes l-bytes limit room)
+  pub cheapest-parts : (limit room : ℕ) → SheetParts (cheapestAnswer card k k-sign l l-sign limit room)
+  cheapest-parts limit room = sheet-parts (cheapestAnswer card k k-sign l l-sign limit room) (cheapest-fits k k-sign l l-sign k-bytes l-bytes limit room)
 
 -- a sheet that is read
 pub read-parts : (s : List ℕ) → JudgementParts (judgement (answer card s))

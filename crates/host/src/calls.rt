@@ -12,67 +12,106 @@ ghost use Rattle.host.specs.Told.{toldRecoded, toldSheet, toldJudgement}
 
 // The row of a scalar for the window m.
 #[no_mangle]
-pub extern "C" fn sheets_row(scalar: &[u8], m: u32, digits: &mut [u8]) -> u64
-    ensures answer { λ r. ⌜ r ≡ toldRecoded (rowAnswer card (now (scalar .entry)) m (length (now (digits .entry)))) ⌝ }
-    ensures buffer { λ _. ⌜ now (digits .exit) ≡ rowBuffer card (now (scalar .entry)) m (now (digits .entry)) ⌝ }
+pub extern "C" fn sheets_row(scalar: &[u8], sign: u32, m: u32, digits: &mut [u8]) -> u64
+    ensures answer { λ r. ⌜ r ≡ toldRecoded (rowAnswer card (now (scalar .entry)) sign m (length (now (digits .entry)))) ⌝ }
+    ensures buffer { λ _. ⌜ now (digits .exit) ≡ rowBuffer card (now (scalar .entry)) sign m (now (digits .entry)) ⌝ }
 {
-    crate::told::recoded(recode::row(scalar, m, digits))
+    crate::told::recoded(recode::row(scalar, sign, m, digits))
 }
 
 // The joint sparse form of two scalars.
 #[no_mangle]
-pub extern "C" fn sheets_joint(k: &[u8], l: &[u8], k_digits: &mut [u8], l_digits: &mut [u8]) -> u64
-    ensures answer { λ r. ⌜ r ≡ toldRecoded (jointAnswer card (now (k .entry)) (now (l .entry)) (length (now («k_digits» .entry))) (length (now («l_digits» .entry)))) ⌝ }
-    ensures first { λ _. ⌜ now («k_digits» .exit) ≡ jointBuffer card P (now (k .entry)) (now (l .entry)) (now («k_digits» .entry)) (now («l_digits» .entry)) ⌝ }
-    ensures second { λ _. ⌜ now («l_digits» .exit) ≡ jointBuffer card Q (now (k .entry)) (now (l .entry)) (now («k_digits» .entry)) (now («l_digits» .entry)) ⌝ }
+pub extern "C" fn sheets_joint(
+    k: &[u8],
+    k_sign: u32,
+    l: &[u8],
+    l_sign: u32,
+    k_digits: &mut [u8],
+    l_digits: &mut [u8],
+) -> u64
+    ensures answer { λ r. ⌜ r ≡ toldRecoded (jointAnswer card (now (k .entry)) «k_sign» (now (l .entry)) «l_sign» (length (now («k_digits» .entry))) (length (now («l_digits» .entry)))) ⌝ }
+    ensures first { λ _. ⌜ now («k_digits» .exit) ≡ jointBuffer card P (now (k .entry)) «k_sign» (now (l .entry)) «l_sign» (now («k_digits» .entry)) (now («l_digits» .entry)) ⌝ }
+    ensures second { λ _. ⌜ now («l_digits» .exit) ≡ jointBuffer card Q (now (k .entry)) «k_sign» (now (l .entry)) «l_sign» (now («k_digits» .entry)) (now («l_digits» .entry)) ⌝ }
 {
-    crate::told::recoded(recode::joint(k, l, k_digits, l_digits))
+    crate::told::recoded(recode::joint(k, k_sign, l, l_sign, k_digits, l_digits))
 }
 
 // The joint sparse form of two scalars, and beside each row the codes of its digits.
 #[no_mangle]
 pub extern "C" fn sheets_joint_codes(
     k: &[u8],
+    k_sign: u32,
     l: &[u8],
+    l_sign: u32,
     k_digits: &mut [u8],
     l_digits: &mut [u8],
     k_codes: &mut [u8],
     l_codes: &mut [u8],
 ) -> u64
-    ensures answer { λ r. ⌜ r ≡ toldRecoded (codesAnswer card (now (k .entry)) (now (l .entry)) (length (now («k_digits» .entry))) (length (now («l_digits» .entry))) (length (now («k_codes» .entry))) (length (now («l_codes» .entry)))) ⌝ }
-    ensures first { λ _. ⌜ now («k_digits» .exit) ≡ codesDigits card P (now (k .entry)) (now (l .entry)) (now («k_digits» .entry)) (now («l_digits» .entry)) (now («k_codes» .entry)) (now («l_codes» .entry)) ⌝ }
-    ensures second { λ _. ⌜ now («l_digits» .exit) ≡ codesDigits card Q (now (k .entry)) (now (l .entry)) (now («k_digits» .entry)) (now («l_digits» .entry)) (now («k_codes» .entry)) (now («l_codes» .entry)) ⌝ }
-    ensures first_codes { λ _. ⌜ now («k_codes» .exit) ≡ codesBuffer card P (now (k .entry)) (now (l .entry)) (now («k_digits» .entry)) (now («l_digits» .entry)) (now («k_codes» .entry)) (now («l_codes» .entry)) ⌝ }
-    ensures second_codes { λ _. ⌜ now («l_codes» .exit) ≡ codesBuffer card Q (now (k .entry)) (now (l .entry)) (now («k_digits» .entry)) (now («l_digits» .entry)) (now («k_codes» .entry)) (now («l_codes» .entry)) ⌝ }
+    ensures answer { λ r. ⌜ r ≡ toldRecoded (codesAnswer card (now (k .entry)) «k_sign» (now (l .entry)) «l_sign» (length (now («k_digits» .entry))) (length (now («l_digits» .entry))) (length (now («k_codes» .entry))) (length (now («l_codes» .entry)))) ⌝ }
+    ensures first { λ _. ⌜ now («k_digits» .exit) ≡ codesDigits card P (now (k .entry)) «k_sign» (now (l .entry)) «l_sign» (now («k_digits» .entry)) (now («l_digits» .entry)) (now («k_codes» .entry)) (now («l_codes» .entry)) ⌝ }
+    ensures second { λ _. ⌜ now («l_digits» .exit) ≡ codesDigits card Q (now (k .entry)) «k_sign» (now (l .entry)) «l_sign» (now («k_digits» .entry)) (now («l_digits» .entry)) (now («k_codes» .entry)) (now («l_codes» .entry)) ⌝ }
+    ensures first_codes { λ _. ⌜ now («k_codes» .exit) ≡ codesBuffer card P (now (k .entry)) «k_sign» (now (l .entry)) «l_sign» (now («k_digits» .entry)) (now («l_digits» .entry)) (now («k_codes» .entry)) (now («l_codes» .entry)) ⌝ }
+    ensures second_codes { λ _. ⌜ now («l_codes» .exit) ≡ codesBuffer card Q (now (k .entry)) «k_sign» (now (l .entry)) «l_sign» (now («k_digits» .entry)) (now («l_digits» .entry)) (now («k_codes» .entry)) (now («l_codes» .entry)) ⌝ }
 {
-    crate::told::recoded(codes::joint_codes(k, l, k_digits, l_digits, k_codes, l_codes))
+    crate::told::recoded(codes::joint_codes(
+        k,
+        k_sign,
+        l,
+        l_sign,
+        k_digits,
+        l_digits,
+        k_codes,
+        l_codes,
+    ))
 }
 
 // The sheet of plan J.
 #[no_mangle]
-pub extern "C" fn sheets_plan_j(k: &[u8], l: &[u8], sheet: &mut [u8]) -> u64
-    ensures answer { λ r. ⌜ r ≡ toldSheet (jAnswer card (now (k .entry)) (now (l .entry)) (length (now (sheet .entry)))) ⌝ }
-    ensures buffer { λ _. ⌜ now (sheet .exit) ≡ jBuffer card (now (k .entry)) (now (l .entry)) (now (sheet .entry)) ⌝ }
+pub extern "C" fn sheets_plan_j(
+    k: &[u8],
+    k_sign: u32,
+    l: &[u8],
+    l_sign: u32,
+    sheet: &mut [u8],
+) -> u64
+    ensures answer { λ r. ⌜ r ≡ toldSheet (jAnswer card (now (k .entry)) «k_sign» (now (l .entry)) «l_sign» (length (now (sheet .entry)))) ⌝ }
+    ensures buffer { λ _. ⌜ now (sheet .exit) ≡ jBuffer card (now (k .entry)) «k_sign» (now (l .entry)) «l_sign» (now (sheet .entry)) ⌝ }
 {
-    crate::told::written(writer::plan_j(k, l, sheet))
+    crate::told::written(writer::plan_j(k, k_sign, l, l_sign, sheet))
 }
 
 // The sheet of plan I with the windows m1 for P and m2 for Q.
 #[no_mangle]
-pub extern "C" fn sheets_plan_i(k: &[u8], l: &[u8], m1: u32, m2: u32, sheet: &mut [u8]) -> u64
-    ensures answer { λ r. ⌜ r ≡ toldSheet (iAnswer card (now (k .entry)) (now (l .entry)) m1 m2 (length (now (sheet .entry)))) ⌝ }
-    ensures buffer { λ _. ⌜ now (sheet .exit) ≡ iBuffer card (now (k .entry)) (now (l .entry)) m1 m2 (now (sheet .entry)) ⌝ }
+pub extern "C" fn sheets_plan_i(
+    k: &[u8],
+    k_sign: u32,
+    l: &[u8],
+    l_sign: u32,
+    m1: u32,
+    m2: u32,
+    sheet: &mut [u8],
+) -> u64
+    ensures answer { λ r. ⌜ r ≡ toldSheet (iAnswer card (now (k .entry)) «k_sign» (now (l .entry)) «l_sign» m1 m2 (length (now (sheet .entry)))) ⌝ }
+    ensures buffer { λ _. ⌜ now (sheet .exit) ≡ iBuffer card (now (k .entry)) «k_sign» (now (l .entry)) «l_sign» m1 m2 (now (sheet .entry)) ⌝ }
 {
-    crate::told::written(writer::plan_i(k, l, m1, m2, sheet))
+    crate::told::written(writer::plan_i(k, k_sign, l, l_sign, m1, m2, sheet))
 }
 
 // The cheapest sheet for k and l that needs no more slots than the limit.
 #[no_mangle]
-pub extern "C" fn sheets_cheapest(k: &[u8], l: &[u8], limit: u32, sheet: &mut [u8]) -> u64
-    ensures answer { λ r. ⌜ r ≡ toldSheet (cheapestAnswer card (now (k .entry)) (now (l .entry)) limit (length (now (sheet .entry)))) ⌝ }
-    ensures buffer { λ _. ⌜ now (sheet .exit) ≡ cheapestBuffer card (now (k .entry)) (now (l .entry)) limit (now (sheet .entry)) ⌝ }
+pub extern "C" fn sheets_cheapest(
+    k: &[u8],
+    k_sign: u32,
+    l: &[u8],
+    l_sign: u32,
+    limit: u32,
+    sheet: &mut [u8],
+) -> u64
+    ensures answer { λ r. ⌜ r ≡ toldSheet (cheapestAnswer card (now (k .entry)) «k_sign» (now (l .entry)) «l_sign» limit (length (now (sheet .entry)))) ⌝ }
+    ensures buffer { λ _. ⌜ now (sheet .exit) ≡ cheapestBuffer card (now (k .entry)) «k_sign» (now (l .entry)) «l_sign» limit (now (sheet .entry)) ⌝ }
 {
-    crate::told::written(chooser::cheapest(k, l, limit, sheet))
+    crate::told::written(chooser::cheapest(k, k_sign, l, l_sign, limit, sheet))
 }
 
 // Reads a sheet: accepted, or the first question that it misses.

@@ -1,34 +1,34 @@
 -- The header that a sheet begins with, and back from it to the scalars in its fields.
 use mathlib.Core.Path.{_≡_, refl, sym, ap, _∙_}
-use mathlib.Core.Bool.{Bool, true, false, cond}
+use mathlib.Core.Bool.{Bool, true, false}
 use mathlib.Core.List.{List, [], _∷_}
 use mathlib.Core.Option.{Option, none, some}
 use Prim.Native.Nat.{ℕ, _+_, _≤_, _<_}
 use native.Mathlib.Omega.{arith}
+use lib.IntN.{ℤ, pos}
 use lib.ListN.{length, getD, take, drop}
 use Rattle.digits.specs.Limits.{card}
-use Rattle.sheet.specs.Numeral.{number, followed}
 use Rattle.sheet.specs.Line as spec
 use Rattle.sheet.specs.Line.{header, table, load, double, add, end, misspelled}
 use Rattle.sheet.specs.Spelling.{lineFeed, comma, cut, letter, readKind, readDecimal, readScalar, readHeader, _>>=_, readLine, readLines, lines}
 use Rattle.sheet.specs.Spelling.Cut.{lines-none}
-use Rattle.sheet.specs.Spelling.Field.{First, isNumeral}
+use Rattle.sheet.specs.Spelling.Field.{First, isWhole, wholeOf}
 use Rattle.lines.specs.Coded.{codedHeader, codedHeading, headingOf, openingOf, Opened, headField, ScalarIn}
 use Rattle.lines.specs.declared.header.Header as header-of
 use Rattle.lines.specs.declared.header.Heading as heading
 use Rattle.lines.proofs.LineAt.{lines-at, lines-end}
-use Rattle.lines.proofs.HeaderRead.{never, headed}
+use Rattle.lines.proofs.HeaderRead.{scalar-read, never, headed}
 
 bind-some : {A B : Type 0} (o : Option A) (f : A → Option B) (b : B) → (o >>= f) ≡ some b → (a : A) × (o ≡ some a) × (f a ≡ some b)
 bind-some none f b e = let z : _≡_ {A = ℕ} 0 1 = cc in absurd (omega arith)
 bind-some (some a) f b e = (a, refl, e)
 
-abbrev k-of : Option spec.Header → ℕ
-k-of none = 0
+abbrev k-of : Option spec.Header → ℤ
+k-of none = pos 0
 k-of (some h) = h .k
 
-abbrev l-of : Option spec.Header → ℕ
-l-of none = 0
+abbrev l-of : Option spec.Header → ℤ
+l-of none = pos 0
 l-of (some h) = h .l
 
 -- both scalars were read
@@ -58,20 +58,20 @@ first-of ((c ∷ s) ∷ []) h ls e = let i : misspelled ≡ header h = cc in let
 first-of ([] ∷ t ∷ ss) h ls e = cc
 first-of ((c ∷ s) ∷ t ∷ ss) h ls e = cc
 
-scalar-value : (f : List ℕ) (k : ℕ) → number 16 132 f ≡ some k → (isNumeral 16 132 f ≡ true) × (followed 16 0 f ≡ k)
-unfolding number
-scalar-value f k e = go (isNumeral 16 132 f) refl e
+-- a scalar that was read is that of its field
+scalar-value : (f : List ℕ) (k : ℤ) → readScalar card f ≡ some k → (isWhole 16 132 f ≡ true) × (wholeOf 16 f ≡ k)
+scalar-value f k e = go (isWhole 16 132 f) refl
   where
-    go : (b : Bool) → isNumeral 16 132 f ≡ b → cond b (some (followed 16 0 f)) none ≡ some k → (isNumeral 16 132 f ≡ true) × (followed 16 0 f ≡ k)
-    go true i e = (i, cc)
-    go false i e = let z : _≡_ {A = ℕ} 0 1 = cc in absurd (omega arith)
+    go : (b : Bool) → isWhole 16 132 f ≡ b → (isWhole 16 132 f ≡ true) × (wholeOf 16 f ≡ k)
+    go true i = let g = sym (scalar-read f true i) ∙ e in (i, cc)
+    go false i = let g = sym (scalar-read f false i) ∙ e in let z : _≡_ {A = ℕ} 0 1 = cc in absurd (omega arith)
 
 -- the two fields are scalars, and their values are k and l
 pub record Scalars (s : List ℕ) (h : spec.Header) : Type 0 where
   pub is-k : ScalarIn s 7
   pub is-l : ScalarIn s 8
-  pub k : followed 16 0 (headField s 7) ≡ h .k
-  pub l : followed 16 0 (headField s 8) ≡ h .l
+  pub k : wholeOf 16 (headField s 7) ≡ h .k
+  pub l : wholeOf 16 (headField s 8) ≡ h .l
 
 pub head-scalars : (s : List ℕ) (h : spec.Header) (ls : List spec.Line) → lines card s ≡ header h ∷ ls → Scalars s h
 unfolding lines

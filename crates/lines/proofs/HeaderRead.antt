@@ -13,12 +13,15 @@ use Rattle.digits.specs.Limits.{card}
 use Rattle.sheet.specs.Plan.{Point}
 use Rattle.sheet.specs.Line as spec
 use Rattle.sheet.specs.Line.{joint, interleaved, header, table, load, double, add, end, misspelled}
-use Rattle.sheet.specs.Spelling.{comma, cut, letter, readKind, readDecimal, readPoint, readHeader, made, sized, readBehind, readLine}
-use Rattle.sheet.specs.Spelling.Field.{isNumeral}
-use Rattle.sheet.proofs.FieldTurns.{numeral-value}
+use Rattle.sheet.specs.Spelling.{comma, cut, letter, readKind, readDecimal, readScalar, readPoint, readHeader, made, sized, readBehind, readLine}
+use Rattle.sheet.specs.Spelling.Field.{isWhole, wholeOf}
+use Rattle.sheet.proofs.SignTurns.{whole-value}
 use Rattle.lines.specs.Coded.{kindOf, isJoint, codedHeading, headingOf}
-use Rattle.lines.specs.declared.header.Header as header-of
 use Rattle.lines.specs.declared.header.Heading as heading
+
+-- a scalar, by the test of its field
+pub scalar-read : (f : List ℕ) (b : Bool) → isWhole 16 (card .figures) f ≡ b → readScalar card f ≡ cond b (some (wholeOf 16 f)) none
+scalar-read f b e = whole-value 16 132 (omega arith) (omega arith) f ∙ ap (λ (t : Bool). cond t (some (wholeOf 16 f)) none) e
 
 -- a header, field by field
 module _ (fs : List (List ℕ)) (joint : Bool) (kind : readKind (getD fs 1 []) ≡ some (kindOf joint)) where
@@ -47,15 +50,15 @@ module _ (fs : List (List ℕ)) (joint : Bool) (kind : readKind (getD fs 1 []) �
           header-6 e = rw (kind, e2, e3, e4, e5, e)
 
           module _ (doublings : ℕ) (e6 : readDecimal (getD fs 6 []) ≡ some doublings) where
-            pub header-7 : isNumeral 16 (card .figures) (getD fs 7 []) ≡ false → heading.the-variants.None ≡ codedHeading (readHeader card fs)
+            pub header-7 : isWhole 16 (card .figures) (getD fs 7 []) ≡ false → heading.the-variants.None ≡ codedHeading (readHeader card fs)
             unfolding readHeader
-            header-7 e = rw (kind, e2, e3, e4, e5, e6, numeral-value 16 132 (getD fs 7 []) false e)
+            header-7 e = rw (kind, e2, e3, e4, e5, e6, scalar-read (getD fs 7 []) false e)
 
-            module _ (e7 : isNumeral 16 (card .figures) (getD fs 7 []) ≡ true) where
-              pub header-8 : isNumeral 16 (card .figures) (getD fs 8 []) ≡ false → heading.the-variants.None ≡ codedHeading (readHeader card fs)
+            module _ (e7 : isWhole 16 (card .figures) (getD fs 7 []) ≡ true) where
+              pub header-8 : isWhole 16 (card .figures) (getD fs 8 []) ≡ false → heading.the-variants.None ≡ codedHeading (readHeader card fs)
               unfolding readHeader
               header-8 e =
-                  rw (kind, e2, e3, e4, e5, e6, numeral-value 16 132 (getD fs 7 []) true e7, numeral-value 16 132 (getD fs 8 []) false e)
+                  rw (kind, e2, e3, e4, e5, e6, scalar-read (getD fs 7 []) true e7, scalar-read (getD fs 8 []) false e)
 
               joint-kind : isJoint (kindOf joint) ≡ joint
               joint-kind = go joint
@@ -64,12 +67,12 @@ module _ (fs : List (List ℕ)) (joint : Bool) (kind : readKind (getD fs 1 []) �
                   go true = refl
                   go false = refl
 
-              pub header-all : isNumeral 16 (card .figures) (getD fs 8 []) ≡ true
+              pub header-all : isWhole 16 (card .figures) (getD fs 8 []) ≡ true
                   → heading.the-variants.Is (record { joint = joint; m1 = m1; m2 = m2; slots = slots; additions = additions; doublings = doublings })
                   ≡ codedHeading (readHeader card fs)
               unfolding readHeader
               header-all e =
-                  rw (kind, e2, e3, e4, e5, e6, numeral-value 16 132 (getD fs 7 []) true e7, numeral-value 16 132 (getD fs 8 []) true e, joint-kind)
+                  rw (kind, e2, e3, e4, e5, e6, scalar-read (getD fs 7 []) true e7, scalar-read (getD fs 8 []) true e, joint-kind)
 
 pub heading-none : (fs : List (List ℕ)) → readKind (getD fs 1 []) ≡ none → heading.the-variants.None ≡ codedHeading (readHeader card fs)
 unfolding readHeader

@@ -1,24 +1,26 @@
 -- What the parsers of digits and points answer, from the tests and the fields that they read.
-use mathlib.Core.Path.{_≡_, refl, ap}
+use mathlib.Core.Path.{_≡_, refl, sym, ap, _∙_}
 use mathlib.Core.Logic.{_≢_}
-use mathlib.Core.Bool.{true}
+use mathlib.Core.Bool.{Bool, true, false, cond}
 use mathlib.Core.List.{List, [], _∷_}
 use mathlib.Core.Option.{Option, none, some}
 use Prim.Native.Nat.{ℕ, zero, suc, _+_, _*_, _≤_, _<_}
 use native.Mathlib.Omega.{arith}
+use lib.Dec.{eqb}
 use lib.IntN.{ℤ}
 use lib.ListN.{length, getD, drop}
 use borrow.Author.Tests.{eq-eqb, ne-eqb, lt-ltb, le-ltb, le-leb, lt-leb}
 use Rattle.sheet.specs.Numeral.{worth, figures, followed, number}
-use Rattle.sheet.specs.Spelling.{plain, negative, readDigit, readPoint}
-use Rattle.sheet.specs.Spelling.Field.{decimalOf}
+use Rattle.sheet.specs.Spelling.{minus, plain, negative, readDigit, readPoint}
+use Rattle.sheet.specs.Spelling.Field.{signOf, unsigned, decimalOf}
+use Rattle.sheet.specs.declared.figures.Decimal.{Decimal}
 use Rattle.lines.specs.Coded.{optionOf, signed, codedDigit, codedPair}
 use Rattle.lines.specs.declared.point.Signed.{Signed}
 use Rattle.lines.specs.declared.point.Digit as digit
 use Rattle.lines.specs.declared.point.Pair as pair
 
 -- a decimal that was read
-pub option-decimal : (o : Option ℕ) → optionOf (decimalOf o) ≡ o
+option-decimal : (o : Option ℕ) → optionOf (decimalOf o) ≡ o
 option-decimal none = refl
 option-decimal (some n) = refl
 
@@ -83,17 +85,23 @@ pub digit-none : (o : Option ℤ) → codedDigit o ≡ digit.the-variants.None �
 digit-none none e = refl
 digit-none (some z) e = let z : _≡_ {A = ℕ} 0 1 = cc in absurd (omega arith)
 
-pub digit-empty : (s : List ℕ) → length s ≡ 0 → digit.the-variants.None ≡ codedDigit (readDigit s)
-digit-empty [] e = refl
-digit-empty (c ∷ s) e = absurd (omega arith)
+-- by the sign of a field and the size that stands behind it
+by-sign : (s : List ℕ) → cond (eqb (signOf s) 1) (negative (number 10 2 (unsigned s))) (plain (number 10 2 (unsigned s))) ≡ readDigit s
+unfolding number
+by-sign [] = refl
+by-sign (c ∷ s) = go (eqb c minus)
+  where
+    go : (b : Bool) → cond (eqb (cond b 1 0) 1) (negative (number 10 2 (drop (cond b 1 0) (c ∷ s)))) (plain (number 10 2 (drop (cond b 1 0) (c ∷ s))))
+        ≡ cond b (negative (number 10 2 s)) (plain (number 10 2 (c ∷ s)))
+    go true = refl
+    go false = refl
 
-pub digit-minus : (s : List ℕ) → (length s ≡ 0 → ⊥) → getD s 0 0 ≡ 45 → readDigit s ≡ negative (number 10 2 (drop 1 s))
-digit-minus [] n e = absurd (n refl)
-digit-minus (c ∷ s) n e = rw (eq-eqb c 45 e)
-
-pub digit-plain : (s : List ℕ) → (length s ≡ 0 → ⊥) → getD s 0 0 ≢ 45 → readDigit s ≡ plain (number 10 2 s)
-digit-plain [] n e = absurd (n refl)
-digit-plain (c ∷ s) n e = rw (ne-eqb c 45 e)
+pub digit-signed : (s : List ℕ) (size : Decimal) (b : Bool) → size ≡ decimalOf (number 10 2 (unsigned s)) → eqb (signOf s) 1 ≡ b
+    → codedDigit (cond b (negative (optionOf size)) (plain (optionOf size))) ≡ codedDigit (readDigit s)
+digit-signed s size b is e =
+    ap (λ (o : Option ℕ). codedDigit (cond b (negative o) (plain o))) (ap optionOf is ∙ option-decimal (number 10 2 (unsigned s)))
+    ∙ ap (λ (t : Bool). codedDigit (cond t (negative (number 10 2 (unsigned s))) (plain (number 10 2 (unsigned s))))) (sym e)
+    ∙ ap codedDigit (by-sign s)
 
 pub minus-some : (n : ℕ) → (n ≡ 0 → ⊥) → digit.the-variants.Is (record { negative = true; size = n }) ≡ codedDigit (negative (some n))
 minus-some zero h = absurd (h refl)

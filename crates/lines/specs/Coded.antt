@@ -13,7 +13,7 @@ use Rattle.sheet.specs.Plan.{Point, point}
 use Rattle.sheet.specs.Line as spec
 use Rattle.sheet.specs.Line.{Kind, joint, interleaved, header, table, load, double, add, end, misspelled}
 use Rattle.sheet.specs.Spelling.{lineFeed, comma, cut, readPoint, lines}
-use Rattle.sheet.specs.Spelling.Field.{isNumeral}
+use Rattle.sheet.specs.Spelling.Field.{isWhole}
 use Rattle.sheet.specs.declared.figures.Decimal.{Decimal}
 use Rattle.sheet.specs.declared.figures.Decimal as decimal
 use Rattle.lines.specs.declared.point.Signed.{Signed}
@@ -41,12 +41,12 @@ signed (pos n) = record { negative = false; size = n }
 signed (negsuc n) = record { negative = true; size = suc n }
 
 -- the number of a sign and a size
-abbrev pub wholeOf : Bool → ℕ → ℤ
-wholeOf true n = negℤ (pos n)
-wholeOf false n = pos n
+abbrev pub numberOf : Bool → ℕ → ℤ
+numberOf true n = negℤ (pos n)
+numberOf false n = pos n
 
 abbrev pub whole : Signed → ℤ
-whole s = wholeOf (s .negative) (s .size)
+whole s = numberOf (s .negative) (s .size)
 
 -- a digit that was read
 abbrev pub codedDigit : Option ℤ → Digit
@@ -160,4 +160,4 @@ abbrev pub headField : List ℕ → ℕ → List ℕ
 headField s k = getD (cut comma (getD (cut lineFeed s) 0 [])) k []
 
 abbrev pub ScalarIn : List ℕ → ℕ → Type 0
-ScalarIn s k = isNumeral 16 (card .figures) (headField s k) ≡ true
+ScalarIn s k = isWhole 16 (card .figures) (headField s k) ≡ true

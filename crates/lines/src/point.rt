@@ -107,14 +107,10 @@ fn size_of(field: &[u8]) -> Decimal
 fn digit_of(field: &[u8]) -> Digit
     ensures { λ r. ⌜ r ≡ codedDigit (readDigit (now (field .entry))) ⌝ }
 {
-    if field.len() == 0 {
-        return Digit::None;
-    }
-    if field[0] == b'-' {
-        let size = size_of(&field[1..]);
+    let size = size_of(sheet::fields::unsigned(field));
+    if sheet::fields::sign_of(field) == 1 {
         return negative(size);
     }
-    let size = size_of(field);
     plain(size)
 }
 

@@ -1,45 +1,55 @@
 -- The slots of an order's line by the tests that the code makes, and the order's scalars where there are slots.
-use mathlib.Core.Path.{_≡_, refl, sym, ap, _∙_}
+use mathlib.Core.Path.{_≡_, refl, sym, ap, ap₂, _∙_}
 use mathlib.Core.Bool.{Bool, true, false, cond}
-use mathlib.Core.List.{List, [], _∷_}
+use mathlib.Core.List.{List, []}
 use mathlib.Core.Option.{Option, none, some}
 use Prim.Native.Nat.{ℕ, _≤_}
 use native.Mathlib.Omega.{arith}
 use lib.Dec.{eqb}
+use lib.IntN.{ℤ, pos}
 use lib.ListN.{length, getD}
 use mathlib.Core.Logic.{_≢_}
 use borrow.Author.Tests.{eq-eqb, ne-eqb}
+use Rattle.digits.specs.Integer.{signedBy}
 use Rattle.digits.specs.Limits.{card}
+use Rattle.digits.specs.Scalar.{scalar, signedScalar}
 use Rattle.sheet.specs.declared.figures.Decimal.the-variants.{Is, None}
-use Rattle.sheet.specs.Spelling.Field.{isNumeral, decimalOf}
+use Rattle.sheet.specs.Spelling.Field.{signOf, unsigned, isWhole, wholeOf, decimalOf}
 use Rattle.sheet.specs.Numeral.{figures, followed}
-use Rattle.sheet.specs.Spelling.{readDecimal, _>>=_}
-use Rattle.sheet.proofs.FieldTurns.{numeral-value, numeral-parts}
+use Rattle.sheet.specs.Spelling.{readScalar, readDecimal, _>>=_}
+use Rattle.sheet.proofs.SignTurns.{whole-parts, whole-value}
 use Rattle.order.specs.Order.{Order, readFields, slotsOf}
 
--- the figures of a scalar
-pub scalar-figures : (s : List ℕ) → isNumeral 16 (card .figures) s ≡ true → ((1 ≤ length s) × (length s ≤ 132)) × (figures 16 s ≡ true)
-scalar-figures [] e = let z : _≡_ {A = ℕ} 0 1 = cc in absurd (omega arith)
-scalar-figures (c ∷ s) e = let (h, f) = numeral-parts 16 132 (c ∷ s) e in ((omega arith, h), f)
+-- the figures of a scalar, behind its sign
+pub scalar-figures : (s f : List ℕ) → f ≡ unsigned s → isWhole 16 (card .figures) s ≡ true → ((1 ≤ length f) × (length f ≤ 132)) × (figures 16 f ≡ true)
+scalar-figures s f e w = let p = whole-parts 16 132 s f e w in ((p .some-figures, p .few), p .all)
+
+-- the scalar of a sign and of figures is the whole number that they spell
+pub scalar-whole : (s t f : List ℕ) (sign : ℕ) → f ≡ unsigned s → sign ≡ signOf s → scalar t ≡ followed 16 0 f → signedScalar t sign ≡ wholeOf 16 s
+unfolding signedScalar
+scalar-whole s t f sign e g h =
+    ap₂ (λ (n : ℕ) (m : ℕ). signedBy n (pos m)) g (h ∙ ap (followed 16 0) e)
 
 -- the order of three fields, by what is read of each
-abbrev ordered : Option ℕ → Option ℕ → Option ℕ → Bool → Option Order
+abbrev ordered : Option ℤ → Option ℤ → Option ℕ → Bool → Option Order
 ordered a b c three = a >>= λ k. b >>= λ l. c >>= λ slots. cond three (some (record { k = k; l = l; slots = slots })) none
 
 module _ (fs : List (List ℕ)) where
   -- field i spells a scalar
   abbrev pub spelled : ℕ → Bool
-  spelled i = isNumeral 16 (card .figures) (getD fs i [])
+  spelled i = isWhole 16 (card .figures) (getD fs i [])
 
   -- the scalar
-  abbrev pub value : ℕ → ℕ
-  value i = followed 16 0 (getD fs i [])
+  abbrev pub value : ℕ → ℤ
+  value i = wholeOf 16 (getD fs i [])
 
   read-as : {a b three : Bool} → spelled 0 ≡ a → spelled 1 ≡ b → eqb (length fs) 3 ≡ three
       → readFields card fs ≡ ordered (cond a (some (value 0)) none) (cond b (some (value 1)) none) (readDecimal (getD fs 2 [])) three
   unfolding readFields
-  read-as {a} {b} d e f =
-      rw (numeral-value 16 132 (getD fs 0 []) a d, numeral-value 16 132 (getD fs 1 []) b e, f)
+  read-as {a} {b} d e f = rw (scalar-value 0, scalar-value 1, d, e, f)
+    where
+      scalar-value : (i : ℕ) → readScalar card (getD fs i []) ≡ cond (spelled i) (some (value i)) none
+      scalar-value i = whole-value 16 132 (omega arith) (omega arith) (getD fs i [])
 
   -- the slots, by the tests
   pub first-bad : spelled 0 ≡ false → None ≡ decimalOf (slotsOf (readFields card fs))

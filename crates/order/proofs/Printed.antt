@@ -6,12 +6,14 @@ use mathlib.Core.Option.{Option, none}
 use Prim.Native.Nat.{ℕ, _+_, _≤_, _<_}
 use native.Mathlib.Omega.{arith}
 use borrow.Author.Tests.{le-leb, lt-leb, lt-ltb}
+use lib.IntN.{ℤ}
 use lib.ListN.{length, getD, set, take, length-set}
 use lib.Seq.{length-take-le}
 use Rattle.digits.specs.Scalar.Sized.{bytes-sized}
 use Rattle.digits.specs.Limits.{card}
-use Rattle.digits.specs.Scalar.{scalar}
-use Rattle.sheet.specs.Numeral.{numeral, followed}
+use Rattle.digits.specs.Scalar.{signedScalar}
+use Rattle.sheet.specs.Numeral.{numeral}
+use Rattle.sheet.specs.Spelling.Field.{wholeOf}
 use Rattle.sheet.specs.Plan.{isLimit}
 use Rattle.sheet.specs.Spelling.{comma, cut, lineFeed}
 use Rattle.written.specs.Written.{written}
@@ -43,44 +45,44 @@ refused n (a ∷ b ∷ c ∷ d ∷ s) h r =
     subst (λ (t : List ℕ). Prints (78 ∷ 44 ∷ t ++ lineFeed ∷ []) (a ∷ b ∷ c ∷ d ∷ s) 4 (78 ∷ 44 ∷ (48 + n) ∷ 10 ∷ s)) (sym (numeral-one n h)) (record { long = refl; out-is = refl })
 
 -- the cheapest call, asked for scalars x and y of 1 to 66 bytes with a whole buffer, answers a and leaves out
-pub record Answers (k l buffer : List ℕ) (slots x y : ℕ) (a : Sheet) (out : List ℕ) : Type 0 where
+pub record Answers (k : List ℕ) (k-sign : ℕ) (l : List ℕ) (l-sign : ℕ) (buffer : List ℕ) (slots : ℕ) (x y : ℤ) (a : Sheet) (out : List ℕ) : Type 0 where
   pub k-size : (1 ≤ length k) × (length k ≤ 66)
   pub l-size : (1 ≤ length l) × (length l ≤ 66)
   pub room : 16384 ≤ length buffer
-  pub k-is : scalar k ≡ x
-  pub l-is : scalar l ≡ y
-  pub answer : a ≡ cheapestAnswer card k l slots (length buffer)
-  pub leaves : out ≡ cheapestBuffer card k l slots buffer
+  pub k-is : signedScalar k k-sign ≡ x
+  pub l-is : signedScalar l l-sign ≡ y
+  pub answer : a ≡ cheapestAnswer card k k-sign l l-sign slots (length buffer)
+  pub leaves : out ≡ cheapestBuffer card k k-sign l l-sign slots buffer
 
 -- the first n of 66 bytes
 pub taken : (n : ℕ) (s : List ℕ) → (1 ≤ n) × (n ≤ 66) → length s ≡ 66 → (1 ≤ length (take n s)) × (length (take n s) ≤ 66)
 taken n s h e = rw (length-take-le n s (omega (arith, h .1))) h
 
-module _ {k l buffer out : List ℕ} {slots x y : ℕ} {a : Sheet} (c : Answers k l buffer slots x y a out) where
-  asked : (b : Bool) → isLimit slots ≡ b → a ≡ cond b (wrote (cheapestPlan (scalar k) (scalar l) slots) k l) BadLimit
+module _ {k l buffer out : List ℕ} {k-sign l-sign slots : ℕ} {x y : ℤ} {a : Sheet} (c : Answers k k-sign l l-sign buffer slots x y a out) where
+  asked : (b : Bool) → isLimit slots ≡ b → a ≡ cond b (wrote (cheapestPlan (signedScalar k k-sign) (signedScalar l l-sign) slots) (signedScalar k k-sign) (signedScalar l l-sign)) BadLimit
   unfolding cheapestAnswer
   asked b d = c .answer ∙ rw (bytes-sized card k (c .k-size), bytes-sized card l (c .l-size), le-leb 16384 (length buffer) (c .room), d)
 
-  left-as : {b : Sheet} → a ≡ b → out ≡ left b (cheapest (scalar k) (scalar l) slots) buffer
+  left-as : {b : Sheet} → a ≡ b → out ≡ left b (cheapest (signedScalar k k-sign) (signedScalar l l-sign) slots) buffer
   unfolding cheapestBuffer
-  left-as h = c .leaves ∙ ap (λ (b : Sheet). left b (cheapest (scalar k) (scalar l) slots) buffer) (sym (c .answer) ∙ h)
+  left-as h = c .leaves ∙ ap (λ (b : Sheet). left b (cheapest (signedScalar k k-sign) (signedScalar l l-sign) slots) buffer) (sym (c .answer) ∙ h)
 
-  named : {r : ℕ} {t : List ℕ} → Prints (served (scalar k) (scalar l) slots) buffer r t → Prints (served x y slots) buffer r t
+  named : {r : ℕ} {t : List ℕ} → Prints (served (signedScalar k k-sign) (signedScalar l l-sign) slots) buffer r t → Prints (served x y slots) buffer r t
   named {r} {t} p =
-      subst (λ (i : ℕ). Prints (served i y slots) buffer r t) (c .k-is) (subst (λ (j : ℕ). Prints (served (scalar k) j slots) buffer r t) (c .l-is) p)
+      subst (λ (i : ℤ). Prints (served i y slots) buffer r t) (c .k-is) (subst (λ (j : ℤ). Prints (served (signedScalar k k-sign) j slots) buffer r t) (c .l-is) p)
 
   pub sheet-printed : {n m : ℕ} → a ≡ Written n m → Prints (served x y slots) buffer n out
   unfolding cheapest
   sheet-printed {n} {m} h = named (go (isLimit slots) refl)
     where
-      go : (b : Bool) → isLimit slots ≡ b → Prints (cond b (written (cheapestPlan (scalar k) (scalar l) slots) (scalar k) (scalar l)) (refusal 4)) buffer n out
+      go : (b : Bool) → isLimit slots ≡ b → Prints (cond b (written (cheapestPlan (signedScalar k k-sign) (signedScalar l l-sign) slots) (signedScalar k k-sign) (signedScalar l l-sign)) (refusal 4)) buffer n out
       go true d = record { long = ap Call.bytesWritten (sym h ∙ asked true d); out-is = left-as h }
       go false d = absurd (omega (arith, ap number (sym h ∙ asked false d)))
 
   pub limit-printed : {r : ℕ} {t : List ℕ} → a ≡ BadLimit → Prints (refusal 4) out r t → Prints (served x y slots) buffer r t
   limit-printed {r} {t} h p = named (go (isLimit slots) refl)
     where
-      go : (b : Bool) → isLimit slots ≡ b → Prints (cond b (cheapest (scalar k) (scalar l) slots) (refusal 4)) buffer r t
+      go : (b : Bool) → isLimit slots ≡ b → Prints (cond b (cheapest (signedScalar k k-sign) (signedScalar l l-sign) slots) (refusal 4)) buffer r t
       go true d = absurd (omega (arith, ap number (sym h ∙ asked true d)))
       go false d = subst (λ (s : List ℕ). Prints (refusal 4) s r t) (left-as h) p
 
@@ -118,10 +120,10 @@ module _ (s buffer : List ℕ) where
 
     module _ (line : List ℕ) (is : line ≡ lineOf s) where
       pub order-printed : (f g : List ℕ) (n : ℕ) → f ≡ getD (cut comma line) 0 [] → g ≡ getD (cut comma line) 1 [] → Ordered (cut comma line) n
-          → Prints (served (followed 16 0 f) (followed 16 0 g) n) buffer r t → Returned s buffer r t
+          → Prints (served (wholeOf 16 f) (wholeOf 16 g) n) buffer r t → Returned s buffer r t
       order-printed f g n i j o p =
-          whole (served (followed 16 0 f) (followed 16 0 g) n)
-          (read line is _ (o .read) ∙ ap₂ (λ (x y : List ℕ). served (followed 16 0 x) (followed 16 0 y) n) (sym i) (sym j)) p
+          whole (served (wholeOf 16 f) (wholeOf 16 g) n)
+          (read line is _ (o .read) ∙ ap₂ (λ (x y : List ℕ). served (wholeOf 16 x) (wholeOf 16 y) n) (sym i) (sym j)) p
 
       pub misspelled-printed : readFields card (cut comma line) ≡ none → Prints (refusal 6) buffer r t → Returned s buffer r t
       misspelled-printed e p = whole (refusal 6) (read line is none e) p

@@ -8,6 +8,7 @@ use mathlib.Core.List.{List, [], _∷_, _++_}
 use mathlib.Core.Option.{Option, none, some}
 use Prim.Native.Nat.{ℕ}
 use lib.Dec.{eqb}
+use lib.IntN.{ℤ}
 use lib.ListN.{length, getD, take, drop}
 use Rattle.digits.specs.Limits.{Limits, card}
 use Rattle.sheet.specs.Ascii.{ascii}
@@ -19,8 +20,8 @@ use Rattle.chooser.specs.Cheapest.{cheapest}
 
 -- k,l,slots
 pub record Order : Type 0 where
-  pub k : ℕ
-  pub l : ℕ
+  pub k : ℤ
+  pub l : ℤ
   pub slots : ℕ
 
 -- the one line of parts, which ends with its line feed and has nothing behind it
@@ -61,7 +62,7 @@ abbrev pub refusal : ℕ → List ℕ
 refusal n = ascii "N," ++ decimal n ++ (lineFeed ∷ [])
 
 -- the sheet, or 4 where the limit is beyond 31
-abbrev pub served : ℕ → ℕ → ℕ → List ℕ
+abbrev pub served : ℤ → ℤ → ℕ → List ℕ
 served k l slots = cond (isLimit slots) (cheapest k l slots) (refusal 4)
 
 -- a badly spelled line is 6

@@ -9,6 +9,7 @@ use lib.ListN.{getD, replicate}
 use Rattle.digits.specs.Column
 use Rattle.digits.specs.Column.{weight}
 use Rattle.digits.specs.Limits.{card}
+use Rattle.digits.specs.Scalar.{little, scalar, signedScalar}
 use Rattle.digits.specs.Two.{P, Q, two, paired}
 use Rattle.forms.specs.Row
 use Rattle.forms.specs.Joint
@@ -24,7 +25,7 @@ use Rattle.order.specs.Order.{lineOf, readFields, readOrder, printed}
 
 infix 90 +_
 infix 90 −_
--- digits of either sign
+-- numbers of either sign
 abbrev +_ : ℕ → ℤ
 + n = pos n
 
@@ -33,12 +34,14 @@ abbrev −_ : ℕ → ℤ
 
 -- a sample; digits from place 0
 pub data Sample : Type 0 where
-  -- the row of the scalar c for the window m
-  row : (c m : ℕ) (digits : List ℤ) → Sample
+  -- the row of c for the window m
+  row : (c : ℤ) (m : ℕ) (digits : List ℤ) → Sample
   -- the joint sparse form of k and l
-  joint : (k l : ℕ) (ps qs : List ℤ) → Sample
+  joint : (k l : ℤ) (ps qs : List ℤ) → Sample
   -- how many of its columns are not zero, and how many where the non-adjacent rows of k and l make the columns
-  columns : (k l : ℕ) (few more : ℕ) → Sample
+  columns : (k l : ℤ) (few more : ℕ) → Sample
+  -- the whole number of a scalar's bytes and its sign
+  scalars : (bytes : List ℕ) (sign : ℕ) (z : ℤ) → Sample
   -- what the order program prints for a line, whole
   prints : (line text : List ℕ) → Sample
   -- the first line of what it prints
@@ -48,11 +51,12 @@ pub data Sample : Type 0 where
 
 -- what a sample says
 abbrev pub Says : Sample → Type 0
-Says (row c m digits) = Row.row m (pos c) ≡ digits
+Says (row c m digits) = Row.row m c ≡ digits
 Says (joint k l ps qs) =
-    (Column.row two P (Joint.joint (pos k) (pos l)) ≡ ps) × (Column.row two Q (Joint.joint (pos k) (pos l)) ≡ qs)
+    (Column.row two P (Joint.joint k l) ≡ ps) × (Column.row two Q (Joint.joint k l) ≡ qs)
 Says (columns k l few more) =
-    (weight two (Joint.joint (pos k) (pos l)) ≡ few) × (weight two (paired (Row.row 1 (pos k)) (Row.row 1 (pos l))) ≡ more)
+    (weight two (Joint.joint k l) ≡ few) × (weight two (paired (Row.row 1 k) (Row.row 1 l)) ≡ more)
+Says (scalars bytes sign z) = signedScalar bytes sign ≡ z
 Says (prints line text) = printed card line ≡ text
 Says (heads line header) = getD (cut lineFeed (printed card line)) 0 [] ≡ header
 Says (answers told number) = told ≡ number
@@ -64,21 +68,42 @@ bytes n = replicate n 0
 -- the samples, in 01's order; 0 has the empty row for every window (`row-zero`)
 abbrev pub samples : List Sample
 samples =
-    row 0 1 []
-    ∷ row 7 5 (− 1 ∷ + 0 ∷ + 0 ∷ + 1 ∷ [])
-    ∷ row 9 5 (+ 1 ∷ + 0 ∷ + 0 ∷ + 1 ∷ [])
-    ∷ row 9 7 (− 7 ∷ + 0 ∷ + 0 ∷ + 0 ∷ + 1 ∷ [])
-    ∷ row 33 31 (− 31 ∷ + 0 ∷ + 0 ∷ + 0 ∷ + 0 ∷ + 0 ∷ + 1 ∷ [])
-    ∷ row 53 3 (− 3 ∷ + 0 ∷ + 0 ∷ − 1 ∷ + 0 ∷ + 0 ∷ + 1 ∷ [])
-    ∷ joint 13 10 (− 1 ∷ − 1 ∷ + 0 ∷ + 0 ∷ + 1 ∷ []) (+ 0 ∷ + 1 ∷ + 0 ∷ + 1 ∷ + 0 ∷ [])
-    ∷ columns 13 10 4 5
-    ∷ joint 7 2 (− 1 ∷ + 0 ∷ + 0 ∷ + 1 ∷ []) (+ 0 ∷ + 1 ∷ + 0 ∷ + 0 ∷ [])
-    ∷ joint 3 2 (+ 1 ∷ + 1 ∷ []) (+ 0 ∷ + 1 ∷ [])
-    ∷ joint 1 2 (+ 1 ∷ + 0 ∷ []) (+ 0 ∷ + 1 ∷ [])
+    row (+ 0) 1 []
+    ∷ row (+ 7) 5 (− 1 ∷ + 0 ∷ + 0 ∷ + 1 ∷ [])
+    ∷ row (+ 9) 5 (+ 1 ∷ + 0 ∷ + 0 ∷ + 1 ∷ [])
+    ∷ row (+ 9) 7 (− 7 ∷ + 0 ∷ + 0 ∷ + 0 ∷ + 1 ∷ [])
+    ∷ row (+ 33) 31 (− 31 ∷ + 0 ∷ + 0 ∷ + 0 ∷ + 0 ∷ + 0 ∷ + 1 ∷ [])
+    ∷ row (+ 53) 3 (− 3 ∷ + 0 ∷ + 0 ∷ − 1 ∷ + 0 ∷ + 0 ∷ + 1 ∷ [])
+    ∷ joint (+ 13) (+ 10) (− 1 ∷ − 1 ∷ + 0 ∷ + 0 ∷ + 1 ∷ []) (+ 0 ∷ + 1 ∷ + 0 ∷ + 1 ∷ + 0 ∷ [])
+    ∷ columns (+ 13) (+ 10) 4 5
+    ∷ joint (+ 7) (+ 2) (− 1 ∷ + 0 ∷ + 0 ∷ + 1 ∷ []) (+ 0 ∷ + 1 ∷ + 0 ∷ + 0 ∷ [])
+    ∷ joint (+ 3) (+ 2) (+ 1 ∷ + 1 ∷ []) (+ 0 ∷ + 1 ∷ [])
+    ∷ joint (+ 1) (+ 2) (+ 1 ∷ + 0 ∷ []) (+ 0 ∷ + 1 ∷ [])
     ∷ heads (ascii "3,0,1\n") (ascii "S,I,1,1,0,1,2,3,0")
     ∷ prints (ascii "7,2,0\n") (ascii "S,I,1,1,0,2,3,7,2\nL,1,0\nD\nD\nA,0,1\nD\nA,-1,0\nE\n")
     -- doublings before slots
     ∷ heads (ascii "3,0,2\n") (ascii "S,I,3,1,2,1,1,3,0")
+    -- a minus before a scalar: in the row, in one row of the joint form or in both, and on the order
+    ∷ row (− 7) 5 (+ 1 ∷ + 0 ∷ + 0 ∷ − 1 ∷ [])
+    ∷ row (− 53) 3 (+ 3 ∷ + 0 ∷ + 0 ∷ + 1 ∷ + 0 ∷ + 0 ∷ − 1 ∷ [])
+    ∷ joint (− 13) (+ 10) (+ 1 ∷ + 1 ∷ + 0 ∷ + 0 ∷ − 1 ∷ []) (+ 0 ∷ + 1 ∷ + 0 ∷ + 1 ∷ + 0 ∷ [])
+    ∷ joint (+ 13) (− 10) (− 1 ∷ − 1 ∷ + 0 ∷ + 0 ∷ + 1 ∷ []) (+ 0 ∷ − 1 ∷ + 0 ∷ − 1 ∷ + 0 ∷ [])
+    ∷ joint (− 13) (− 10) (+ 1 ∷ + 1 ∷ + 0 ∷ + 0 ∷ − 1 ∷ []) (+ 0 ∷ − 1 ∷ + 0 ∷ − 1 ∷ + 0 ∷ [])
+    ∷ prints (ascii "-7,2,0\n") (ascii "S,I,1,1,0,2,3,-7,2\nL,-1,0\nD\nD\nA,0,1\nD\nA,1,0\nE\n")
+    ∷ prints (ascii "7,-2,0\n") (ascii "S,I,1,1,0,2,3,7,-2\nL,1,0\nD\nD\nA,0,-1\nD\nA,-1,0\nE\n")
+    ∷ heads (ascii "-3,0,2\n") (ascii "S,I,3,1,2,1,1,-3,0")
+    ∷ heads (ascii "-5a,-2d,2\n") (ascii "S,J,1,1,2,6,6,-5a,-2d")
+    ∷ prints (ascii "-0,2,0\n") (ascii "N,6\n")
+    ∷ prints (ascii "--7,2,0\n") (ascii "N,6\n")
+    ∷ prints (ascii "7,-,0\n") (ascii "N,6\n")
+    ∷ prints (ascii "7,2,-0\n") (ascii "N,6\n")
+    -- bytes and their sign: 0 is plus, any other number minus, and zero with a minus is zero
+    ∷ scalars (0 ∷ 7 ∷ []) 0 (+ 7)
+    ∷ scalars (0 ∷ 7 ∷ []) 1 (− 7)
+    ∷ scalars (0 ∷ 7 ∷ []) 2 (− 7)
+    ∷ scalars (0 ∷ 7 ∷ []) 256 (− 7)
+    ∷ scalars (0 ∷ 7 ∷ []) 4294967295 (− 7)
+    ∷ scalars (0 ∷ 0 ∷ []) 1 (+ 0)
     -- the highest limit, and one more
     ∷ heads (ascii "7,2,31\n") (ascii "S,I,1,1,0,2,3,7,2")
     ∷ prints (ascii "7,2,32\n") (ascii "N,4\n")
@@ -118,17 +143,18 @@ sameText = sameList equal
 
 -- the test of a sample
 abbrev sample : (s : Sample) → Test (Says s)
-sample (row c m digits) = sameRow (Row.row m (pos c)) digits
+sample (row c m digits) = sameRow (Row.row m c) digits
 sample (joint k l ps qs) =
-    both (sameRow (Column.row two P (Joint.joint (pos k) (pos l))) ps) (sameRow (Column.row two Q (Joint.joint (pos k) (pos l))) qs)
+    both (sameRow (Column.row two P (Joint.joint k l)) ps) (sameRow (Column.row two Q (Joint.joint k l)) qs)
 sample (columns k l few more) =
-    both (equal (weight two (Joint.joint (pos k) (pos l))) few) (equal (weight two (paired (Row.row 1 (pos k)) (Row.row 1 (pos l)))) more)
+    both (equal (weight two (Joint.joint k l)) few) (equal (weight two (paired (Row.row 1 k) (Row.row 1 l))) more)
+sample (scalars bytes sign z) = same (signedScalar bytes sign) z
 sample (prints line text) = sameText (printed card line) text
 sample (heads line header) = sameText (getD (cut lineFeed (printed card line)) 0 []) header
 sample (answers told number) = equal told number
 
 table : T (everyOf sample samples .test)
-unfolding computed Column.row weight figures followed number lineOf readFields readOrder printed
+unfolding computed signedScalar scalar little Column.row weight figures followed number lineOf readFields readOrder printed
 table = tt
 
 -- each sample of the table is true

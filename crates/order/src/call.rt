@@ -3,8 +3,7 @@ ghost use mathlib.Core.Bool.{true};
 ghost use Prim.Native.Nat.{_≤_, _<_};
 ghost use lib.ListN.{length};
 ghost use Rattle.digits.specs.Limits.{card};
-ghost use Rattle.sheet.specs.Spelling.Field.{isNumeral};
-ghost use Rattle.sheet.specs.Numeral.{followed};
+ghost use Rattle.sheet.specs.Spelling.Field.{isWhole, wholeOf};
 ghost use Rattle.order.specs.Order.{Prints, refusal, served, orderLength, orderBuffer, OrderPromised};
 use sheet::figures::Decimal;
 use writer::Sheet;
@@ -26,16 +25,23 @@ fn refuse(number: u8, out: &mut [u8]) -> usize
 
 // Writes the sheet of an order, or the refusal of its limit.
 fn serve(k: &[u8], l: &[u8], slots: u32, out: &mut [u8]) -> usize
-    requires { ⌜ (isNumeral 16 (card .figures) (now k) ≡ true) × ((isNumeral 16 (card .figures) (now l) ≡ true) × (card .sheet ≤ length (now out))) ⌝ }
-    ensures { λ r. ⌜ Prints (served (followed 16 0 (now (k .entry))) (followed 16 0 (now (l .entry))) slots) (now (out .entry)) r (now (out .exit)) ⌝ }
+    requires { ⌜ (isWhole 16 (card .figures) (now k) ≡ true) × ((isWhole 16 (card .figures) (now l) ≡ true) × (card .sheet ≤ length (now out))) ⌝ }
+    ensures { λ r. ⌜ Prints (served (wholeOf 16 (now (k .entry))) (wholeOf 16 (now (l .entry))) slots) (now (out .entry)) r (now (out .exit)) ⌝ }
 {
-    let first = crate::scalar::bytes_of(k);
-    let second = crate::scalar::bytes_of(l);
+    let first = crate::scalar::scalar_of(k);
+    let second = crate::scalar::scalar_of(l);
     let k_bytes = first.bytes;
     let l_bytes = second.bytes;
     let k_len = first.len;
     let l_len = second.len;
-    let answer = chooser::cheapest(&k_bytes[..k_len], &l_bytes[..l_len], slots, out);
+    let answer = chooser::cheapest(
+        &k_bytes[..k_len],
+        first.sign,
+        &l_bytes[..l_len],
+        second.sign,
+        slots,
+        out,
+    );
     match answer {
         Sheet::Written(n, _) => n,
         Sheet::BadScalar => 0,

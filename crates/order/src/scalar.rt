@@ -3,13 +3,16 @@ ghost use mathlib.Core.Bool.{true};
 ghost use mathlib.Core.List.{_++_};
 ghost use Prim.Native.Nat.{_<_, _≤_};
 ghost use lib.ListN.{length, getD, take, replicate};
+ghost use Rattle.digits.specs.Limits.{card};
 ghost use Rattle.digits.specs.Scalar;
 ghost use Rattle.sheet.specs.Numeral.{worth, figures, followed};
+ghost use Rattle.sheet.specs.Spelling.Field.{isWhole, wholeOf};
 
-// The bytes of a scalar, and how many there are.
-pub struct Bytes {
+// A scalar: its bytes, how many there are, and its sign.
+pub struct Signed {
     pub bytes: [u8; 66],
     pub len: usize,
+    pub sign: u32,
 }
 
 // The figure at a place of a field that has `pad` zeros in front of it.
@@ -27,10 +30,10 @@ fn figure_at(field: &[u8], pad: usize, at: usize) -> u8
     0
 }
 
-// The bytes of a scalar that is spelled in hexadecimal figures.
-pub fn bytes_of(field: &[u8]) -> Bytes
+// The scalar of a sign and hexadecimal figures.
+fn scalar_with(sign: u32, field: &[u8]) -> Signed
     requires { ⌜ ((1 ≤ length (now field)) × (length (now field) ≤ 132)) × (figures 16 (now field) ≡ true) ⌝ }
-    ensures { λ r. ⌜ ((1 ≤ r .len) × (r .len ≤ 66)) × ((length (r .bytes) ≡ 66) × (Scalar.scalar (take (r .len) (r .bytes)) ≡ followed 16 0 (now (field .entry)))) ⌝ }
+    ensures { λ r. ⌜ ((1 ≤ r .len) × (r .len ≤ 66)) × ((length (r .bytes) ≡ 66) × ((Scalar.scalar (take (r .len) (r .bytes)) ≡ followed 16 0 (now (field .entry))) × (r .sign ≡ sign))) ⌝ }
 {
     let pad = field.len() % 2;
     let len = (field.len() + pad) / 2;
@@ -42,8 +45,20 @@ pub fn bytes_of(field: &[u8]) -> Bytes
         bytes[i] = 16 * high + low;
         i += 1;
     }
-    Bytes {
+    Signed {
         bytes: bytes,
         len: len,
+        sign: sign,
     }
+}
+
+// The scalar that a field spells.
+pub fn scalar_of(field: &[u8]) -> Signed
+    requires { ⌜ isWhole 16 (card .figures) (now field) ≡ true ⌝ }
+    ensures { λ r. ⌜ ((1 ≤ r .len) × (r .len ≤ 66)) × ((length (r .bytes) ≡ 66) × (Scalar.signedScalar (take (r .len) (r .bytes)) (r .sign) ≡ wholeOf 16 (now (field .entry)))) ⌝ }
+{
+    scalar_with(
+        sheet::fields::sign_of(field),
+        sheet::fields::unsigned(field),
+    )
 }

@@ -10,10 +10,10 @@ use lib.ListN.{length, getD, take, drop, drop-of-length-le}
 use lib.Seq.{drop-cons, take-suc, take-length}
 use borrow.Author.Tests.{eq-eqb, ne-eqb, eqb-true, eqb-false, ltb-true}
 use lib.IntN.{ℤ, pos, negsuc}
+use Rattle.digits.specs.Integer.{signedBy}
 use Rattle.sheet.specs.Numeral.{worth, figures, followed}
 use Rattle.sheet.specs.Questions.{sameNumber}
-use Rattle.survey.specs.Sum.{limb, limbs, start, value, empty, Holds}
-use Rattle.survey.proofs.Digits.{empty-long, empty-drop}
+use Rattle.survey.specs.Sum.{limb, value, Holds}
 use Rattle.reader.specs.Scalar.{before}
 
 -- ── a scalar ────────────────────────────────────────────────────────────────────────────────
@@ -51,36 +51,45 @@ same-test a b c d f g = go (eqb c d) refl
     go true e = eq-eqb a b (g (eqb-true c d e))
     go false e = ne-eqb a b (λ h. eqb-false c d e (f h))
 
--- the scalar x from here on is limb * rest + l
-module _ (x rest l : ℕ) (e : x ≡ limb * rest + l) (xs : List ℕ) (i left right : ℕ) (h : i < limbs) (k : i < length xs) where
-  pub sum-turn : (l + start + left) % limb ≡ (getD xs i 0 + right) % limb
-      → eqb (rest + value (drop (i + 1) empty) + (l + start + left) / limb) (value (drop (i + 1) xs) + (getD xs i 0 + right) / limb)
-      ≡ eqb (x + value (drop i empty) + left) (value (drop i xs) + right)
+-- the figures from here on count x, which is limb * rest + l; the sums go on with xs and ys
+module _ (x rest l : ℕ) (e : x ≡ limb * rest + l) (xs ys : List ℕ) (i left right : ℕ) (h : i < length xs) (k : i < length ys) where
+  pub sum-turn : (l + getD xs i 0 + left) % limb ≡ (getD ys i 0 + right) % limb
+      → eqb (rest + value (drop (i + 1) xs) + (l + getD xs i 0 + left) / limb) (value (drop (i + 1) ys) + (getD ys i 0 + right) / limb)
+      ≡ eqb (x + value (drop i xs) + left) (value (drop i ys) + right)
   unfolding value
   sum-turn s =
-      rw (native.Mathlib.Numerals.add-one, drop-cons xs i 0 k)
-      (same-test (rest + value (drop (suc i) empty) + (l + start + left) / limb) (value (drop (suc i) xs) + (getD xs i 0 + right) / limb)
-      (x + value (drop i empty) + left) (getD xs i 0 + limb * value (drop (suc i) xs) + right)
-      (λ q. omega (arith, empty-drop i h)) (λ q. omega (arith, empty-drop i h)))
+      rw (native.Mathlib.Numerals.add-one, drop-cons xs i 0 h, drop-cons ys i 0 k)
+      (same-test (rest + value (drop (suc i) xs) + (l + getD xs i 0 + left) / limb) (value (drop (suc i) ys) + (getD ys i 0 + right) / limb)
+      (x + (getD xs i 0 + limb * value (drop (suc i) xs)) + left) (getD ys i 0 + limb * value (drop (suc i) ys) + right)
+      (λ q. omega arith) (λ q. omega arith))
 
-  pub sum-stop : (l + start + left) % limb ≢ (getD xs i 0 + right) % limb → false ≡ eqb (x + value (drop i empty) + left) (value (drop i xs) + right)
+  pub sum-stop : (l + getD xs i 0 + left) % limb ≢ (getD ys i 0 + right) % limb → false ≡ eqb (x + value (drop i xs) + left) (value (drop i ys) + right)
   unfolding value
   sum-stop s =
-      rw (drop-cons xs i 0 k)
-      (sym (ne-eqb (x + value (drop i empty) + left) (getD xs i 0 + limb * value (drop (suc i) xs) + right)
-      (λ q. s (omega (arith, empty-drop i h)))))
+      rw (drop-cons xs i 0 h, drop-cons ys i 0 k)
+      (sym (ne-eqb (x + (getD xs i 0 + limb * value (drop (suc i) xs)) + left) (getD ys i 0 + limb * value (drop (suc i) ys) + right) (λ q. s (omega arith))))
 
-pub sum-end : (x : ℕ) (xs : List ℕ) (i left right : ℕ) → x ≡ 0 → limbs ≤ i → length xs ≤ i
-    → eqb left right ≡ eqb (x + value (drop i empty) + left) (value (drop i xs) + right)
+pub sum-end : (x : ℕ) (xs ys : List ℕ) (i left right : ℕ) → x ≡ 0 → length xs ≤ i → length ys ≤ i
+    → eqb left right ≡ eqb (x + value (drop i xs) + left) (value (drop i ys) + right)
 unfolding value
-sum-end x xs i left right e h k =
-    rw (drop-of-length-le empty {i = i} (omega (arith, empty-long)), drop-of-length-le xs k)
+sum-end x xs ys i left right e h k =
+    rw (drop-of-length-le xs h, drop-of-length-le ys k)
     (same-test left right (x + 0 + left) (0 + right) (λ q. omega arith) (λ q. omega arith))
 
 pub sum-start : (x y z : ℕ) → eqb (x + y + 0) (z + 0) ≡ eqb (x + y) z
 sum-start x y z = same-test (x + y + 0) (z + 0) (x + y) z (λ q. omega arith) (λ q. omega arith)
 
--- the number is k exactly if its limbs are those of 0 and of k
-pub is-number : (n : ℕ) (xs : List ℕ) (z : ℤ) (k : ℕ) → Holds n xs z → eqb (k + value empty) (value xs) ≡ sameNumber z (pos k)
-is-number n xs (pos m) k i = same-test (k + value empty) (value xs) m k (λ e. omega (arith, i .is)) (λ e. omega (arith, i .is))
-is-number n xs (negsuc m) k i = ne-eqb (k + value empty) (value xs) (λ e. omega (arith, i .is))
+-- the sum xs against a sign and a size k: with a plus, k and the empty sum ys come to it; with a minus, k and it come to ys
+module _ {m n : ℕ} (xs ys : List ℕ) (none : Holds m ys (pos 0)) where
+  pub is-plus : (sign k : ℕ) (z : ℤ) → sign ≡ 0 → Holds n xs z → eqb (k + value ys) (value xs) ≡ sameNumber z (signedBy sign (pos k))
+  is-plus zero k (pos a) e i = same-test (k + value ys) (value xs) a k (λ q. omega (arith, none .is, i .is)) (λ q. omega (arith, none .is, i .is))
+  is-plus zero k (negsuc a) e i = ne-eqb (k + value ys) (value xs) (λ q. omega (arith, none .is, i .is))
+  is-plus (suc s) k z e i = absurd (omega arith)
+
+  pub is-minus : (sign k : ℕ) (z : ℤ) → sign ≢ 0 → Holds n xs z → eqb (k + value xs) (value ys) ≡ sameNumber z (signedBy sign (pos k))
+  is-minus zero k z e i = absurd (e refl)
+  is-minus (suc s) zero (pos a) e i = same-test (0 + value xs) (value ys) a 0 (λ q. omega (arith, none .is, i .is)) (λ q. omega (arith, none .is, i .is))
+  is-minus (suc s) zero (negsuc a) e i = ne-eqb (0 + value xs) (value ys) (λ q. omega (arith, none .is, i .is))
+  is-minus (suc s) (suc k) (pos a) e i = ne-eqb (suc k + value xs) (value ys) (λ q. omega (arith, none .is, i .is))
+  is-minus (suc s) (suc k) (negsuc a) e i =
+      same-test (suc k + value xs) (value ys) a k (λ q. omega (arith, none .is, i .is)) (λ q. omega (arith, none .is, i .is))

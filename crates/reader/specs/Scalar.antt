@@ -1,12 +1,18 @@
--- A scalar by its last figures, which the comparison with a sum takes four at a time.
+-- The figures of a scalar, of which the comparison with a sum takes the last four at a time.
 use mathlib.Core.Path.{_≡_}
+use mathlib.Core.Bool.{true}
 use mathlib.Core.List.{List}
-use Prim.Native.Nat.{ℕ, _+_, _-_, _*_, _<_}
-use lib.ListN.{take}
-use Rattle.sheet.specs.Numeral.{followed}
+use Prim.Native.Nat.{ℕ, _+_, _-_, _*_, _≤_, _<_}
+use lib.ListN.{length, take}
+use Rattle.digits.specs.Limits.{card}
+use Rattle.sheet.specs.Numeral.{figures, followed}
 use Rattle.reader.specs.declared.compare.Figures.{Figures}
 
--- the number of the figures before a place of a scalar
+-- s is the figures of a scalar
+abbrev pub Figured : List ℕ → Type 0
+Figured s = (length s ≤ card .figures) × (figures 16 s ≡ true)
+
+-- the number of the figures before a place
 abbrev pub before : List ℕ → ℕ → ℕ
 before s end = followed 16 0 (take end s)
 

@@ -1,14 +1,16 @@
 ghost use mathlib.Core.Path.{_≡_};
 ghost use mathlib.Core.Bool.{true};
-ghost use Prim.Native.Nat.{_≤_};
-ghost use lib.IntN.{ℤ, pos};
+ghost use Prim.Native.Nat.{_+_, _≤_};
+ghost use lib.Dec.{eqb};
+ghost use lib.IntN.{ℤ};
 ghost use lib.ListN.{length};
-ghost use Rattle.sheet.specs.Numeral.{figures, followed};
+ghost use Rattle.digits.specs.Limits.{card};
+ghost use Rattle.sheet.specs.Numeral.{followed};
+ghost use Rattle.sheet.specs.Spelling.Field.{isWhole, wholeOf};
 ghost use Rattle.sheet.specs.Questions.{sameNumber};
-ghost use Rattle.survey.specs.Sum.{limb, most, Holds, Roomy};
-ghost use Rattle.reader.specs.Scalar.{Below};
+ghost use Rattle.survey.specs.Sum.{limb, most, value, Holds, Roomy};
+ghost use Rattle.reader.specs.Scalar.{Figured, Below};
 use survey::LIMBS;
-use survey::START;
 
 // One more than the largest limb of a scalar.
 const LIMB: u64 = 65536;
@@ -19,50 +21,50 @@ pub struct Figures {
     pub start: usize,
 }
 
-// The figure before a place of the scalar; 0 where there is none.
-fn figure_before(scalar: &[u8], end: usize) -> Figures
-    requires { ⌜ (end ≤ length (now scalar)) × (figures 16 (now scalar) ≡ true) ⌝ }
-    ensures { λ r. ⌜ Below 16 1 (now (scalar .entry)) end r ⌝ }
+// The figure before a place; 0 where there is none.
+fn figure_before(figures: &[u8], end: usize) -> Figures
+    requires { ⌜ (end ≤ length (now figures)) × Figured (now figures) ⌝ }
+    ensures { λ r. ⌜ Below 16 1 (now (figures .entry)) end r ⌝ }
 {
     if end == 0 {
         return Figures { value: 0, start: 0 };
     }
     let start = end - 1;
-    let figure = sheet::figures::worth_of(scalar[start]);
+    let figure = sheet::figures::worth_of(figures[start]);
     Figures {
         value: figure as u64,
         start: start,
     }
 }
 
-// The four figures before a place of the scalar.
-fn limb_before(scalar: &[u8], end: usize) -> Figures
-    requires { ⌜ (end ≤ length (now scalar)) × (figures 16 (now scalar) ≡ true) ⌝ }
-    ensures { λ r. ⌜ Below limb 4 (now (scalar .entry)) end r ⌝ }
+// The four figures before a place.
+fn limb_before(figures: &[u8], end: usize) -> Figures
+    requires { ⌜ (end ≤ length (now figures)) × Figured (now figures) ⌝ }
+    ensures { λ r. ⌜ Below limb 4 (now (figures .entry)) end r ⌝ }
 {
-    let a = figure_before(scalar, end);
-    let b = figure_before(scalar, a.start);
-    let c = figure_before(scalar, b.start);
-    let d = figure_before(scalar, c.start);
+    let a = figure_before(figures, end);
+    let b = figure_before(figures, a.start);
+    let c = figure_before(figures, b.start);
+    let d = figure_before(figures, c.start);
     Figures {
         value: a.value + 16 * b.value + 256 * c.value + 4096 * d.value,
         start: d.start,
     }
 }
 
-// Whether the sum is the number of the scalar's figures.
-pub fn is(limbs: &[u64], scalar: &[u8]) -> bool
-    requires { ⌜ Roomy (now limbs) × ((length (now scalar) ≤ 132) × (figures 16 (now scalar) ≡ true)) ⌝ }
-    ensures { λ r. ⌜ ((z : ℤ) → Holds most (now (limbs .entry)) z → r ≡ sameNumber z (pos (followed 16 0 (now (scalar .entry))))) ⌝ }
+// Whether the sum `from` and the number of the figures come to the sum `to`.
+fn reaches(from: &[u64], to: &[u64], figures: &[u8]) -> bool
+    requires { ⌜ Roomy (now from) × (Roomy (now to) × Figured (now figures)) ⌝ }
+    ensures { λ r. ⌜ r ≡ eqb (followed 16 0 (now (figures .entry)) + value (now (from .entry))) (value (now (to .entry))) ⌝ }
 {
-    let mut end = scalar.len();
+    let mut end = figures.len();
     let mut left = 0;
     let mut right = 0;
     let mut i = 0;
     while i < LIMBS {
-        let low = limb_before(scalar, end);
-        let a = low.value + START + left;
-        let b = limbs[i] + right;
+        let low = limb_before(figures, end);
+        let a = low.value + from[i] + left;
+        let b = to[i] + right;
         if a % LIMB != b % LIMB {
             return false;
         }
@@ -72,4 +74,17 @@ pub fn is(limbs: &[u64], scalar: &[u8]) -> bool
         i += 1;
     }
     left == right
+}
+
+// Whether the sum is the scalar of a field: a minus exchanges the sum and the empty one.
+pub fn is(limbs: &[u64], field: &[u8]) -> bool
+    requires { ⌜ Roomy (now limbs) × (isWhole 16 (card .figures) (now field) ≡ true) ⌝ }
+    ensures { λ r. ⌜ ((z : ℤ) → Holds most (now (limbs .entry)) z → r ≡ sameNumber z (wholeOf 16 (now (field .entry)))) ⌝ }
+{
+    let empty = survey::empty();
+    let figures = sheet::fields::unsigned(field);
+    if sheet::fields::sign_of(field) == 0 {
+        return reaches(&empty, limbs, figures);
+    }
+    reaches(limbs, &empty, figures)
 }

@@ -1,4 +1,5 @@
 pub mod Turned
+pub mod Signed
 pub mod LowBits
 pub mod Window
 pub mod Laid

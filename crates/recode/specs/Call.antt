@@ -11,14 +11,14 @@ use mathlib.Core.List.{List, [], _∷_, _++_, map}
 use Prim.Native.Nat.{ℕ, suc, _+_, _-_, _*_, _≤_, max}
 use lib.Dec.{leb}
 use lib.ListN.{length, getD, replicate}
-use lib.IntN.{ℤ, pos}
+use lib.IntN.{ℤ, pos, natAbs}
 use Rattle.digits.specs.Buffer.{rowBelow, columnsBelow}
 use Rattle.digits.specs.Byte.{byteOf}
 use Rattle.digits.specs.Column as Columns
 use Rattle.digits.specs.Limits.{Limits}
 use Rattle.digits.specs.Missed.{missed}
 use Rattle.digits.specs.Row.{isWindow, value, weight, Over}
-use Rattle.digits.specs.Scalar.{scalar, sized, bitLength}
+use Rattle.digits.specs.Scalar.{signedScalar, sized, bitLength}
 use Rattle.digits.specs.Two.{Column, Two, P, Q, of, two}
 use Rattle.forms.specs.Joint.{Keeps, Topped, joint}
 use Rattle.forms.specs.Row.{RowRule, row}
@@ -75,29 +75,29 @@ abbrev pub rowQuestion : Limits → List ℕ → ℕ → ℕ → ℕ
 rowQuestion limits s m places = missed ((1, sized limits s) ∷ (2, isWindow m) ∷ (3, roomy (length s) places) ∷ [])
 
 -- the answer: the first question missed, or the row's length and weight
-unfoldable pub rowAnswer : Limits → List ℕ → ℕ → ℕ → Recoded
-rowAnswer limits s m places =
-    cond (sized limits s) (cond (isWindow m) (cond (roomy (length s) places) (wroteRow (row m (pos (scalar s)))) NoRoom) BadWindow) BadScalar
+unfoldable pub rowAnswer : Limits → List ℕ → ℕ → ℕ → ℕ → Recoded
+rowAnswer limits s sign m places =
+    cond (sized limits s) (cond (isWindow m) (cond (roomy (length s) places) (wroteRow (row m (signedScalar s sign))) NoRoom) BadWindow) BadScalar
 
 -- the buffer
-unfoldable pub rowBuffer : Limits → List ℕ → ℕ → List ℕ → List ℕ
-rowBuffer limits s m buffer = left (rowAnswer limits s m (length buffer)) (row m (pos (scalar s))) buffer
+unfoldable pub rowBuffer : Limits → List ℕ → ℕ → ℕ → List ℕ → List ℕ
+rowBuffer limits s sign m buffer = left (rowAnswer limits s sign m (length buffer)) (row m (signedScalar s sign)) buffer
 
 -- what is promised of a row ds for the window m and the scalar c that is said to have the weight w
-pub record RowOf (m c w : ℕ) (ds : List ℤ) : Type 0 where
+pub record RowOf (m : ℕ) (c : ℤ) (w : ℕ) (ds : List ℤ) : Type 0 where
   -- it is 01's
-  pub rule : RowRule m (pos c) ds
+  pub rule : RowRule m c ds
   -- its digits are the window's, it reads back to c, its top digit is not 0, and it has no more places than c's bit length plus one
   pub digits : Over m ds
-  pub reads : value ds ≡ pos c
+  pub reads : value ds ≡ c
   pub top : (i : ℕ) → length ds ≡ suc i → getD ds i (pos 0) ≢ pos 0
-  pub short : length ds ≤ bitLength c + 1
+  pub short : length ds ≤ bitLength (natAbs c) + 1
   -- w of its digits are not 0, and no row over the same digits has fewer such ones
   pub counted : weight ds ≡ w
-  pub fewest : (es : List ℤ) → Over m es → value es ≡ pos c → w ≤ weight es
+  pub fewest : (es : List ℤ) → Over m es → value es ≡ c → w ≤ weight es
 
 -- where n places were written, the row below n is such a one
-abbrev pub RowPromised : ℕ → ℕ → Recoded → List ℕ → Type 0
+abbrev pub RowPromised : ℕ → ℤ → Recoded → List ℕ → Type 0
 RowPromised m c BadScalar buffer = Unit {0}
 RowPromised m c BadWindow buffer = Unit {0}
 RowPromised m c NoRoom buffer = Unit {0}
@@ -111,37 +111,38 @@ jointQuestion limits s t places places′ =
     missed ((1, sized limits s) ∷ (1, sized limits t) ∷ (3, roomy (max (length s) (length t)) places) ∷ (3, roomy (max (length s) (length t)) places′) ∷ [])
 
 -- the answer: the first question missed, or the length and the weight
-unfoldable pub jointAnswer : Limits → List ℕ → List ℕ → ℕ → ℕ → Recoded
-jointAnswer limits s t places places′ =
+unfoldable pub jointAnswer : Limits → List ℕ → ℕ → List ℕ → ℕ → ℕ → ℕ → Recoded
+jointAnswer limits s s-sign t t-sign places places′ =
     cond (sized limits s && sized limits t)
     (cond (roomy (max (length s) (length t)) places && roomy (max (length s) (length t)) places′)
-    (wroteColumns (joint (pos (scalar s)) (pos (scalar t))))
+    (wroteColumns (joint (signedScalar s s-sign) (signedScalar t t-sign)))
     NoRoom)
     BadScalar
 
 -- one of the two buffers
-unfoldable pub jointBuffer : Limits → Two → List ℕ → List ℕ → List ℕ → List ℕ → List ℕ
-jointBuffer limits r s t buffer buffer′ =
-    left (jointAnswer limits s t (length buffer) (length buffer′)) (Columns.row two r (joint (pos (scalar s)) (pos (scalar t))))
+unfoldable pub jointBuffer : Limits → Two → List ℕ → ℕ → List ℕ → ℕ → List ℕ → List ℕ → List ℕ
+jointBuffer limits r s s-sign t t-sign buffer buffer′ =
+    left (jointAnswer limits s s-sign t t-sign (length buffer) (length buffer′))
+    (Columns.row two r (joint (signedScalar s s-sign) (signedScalar t t-sign)))
     (of buffer buffer′ r)
 
 -- what is promised of joint columns cs for k and l that are said to have the weight w
-pub record JointOf (k l w : ℕ) (cs : List Column) : Type 0 where
+pub record JointOf (k l : ℤ) (w : ℕ) (cs : List Column) : Type 0 where
   -- they keep the joint sparse rules, the top one is not zero, they read back to k and l, and use at most one place more than the longer bit length
   pub keeps : Keeps cs
   pub topped : Topped cs
-  pub reads-k : value (Columns.row two P cs) ≡ pos k
-  pub reads-l : value (Columns.row two Q cs) ≡ pos l
-  pub short : length cs ≤ max (bitLength k) (bitLength l) + 1
+  pub reads-k : value (Columns.row two P cs) ≡ k
+  pub reads-l : value (Columns.row two Q cs) ≡ l
+  pub short : length cs ≤ max (bitLength (natAbs k)) (bitLength (natAbs l)) + 1
   -- every list that does so is equal to them
-  pub only : (ds : List Column) → Keeps ds → Topped ds → value (Columns.row two P ds) ≡ pos k → value (Columns.row two Q ds) ≡ pos l → ds ≡ cs
+  pub only : (ds : List Column) → Keeps ds → Topped ds → value (Columns.row two P ds) ≡ k → value (Columns.row two Q ds) ≡ l → ds ≡ cs
   -- w of them are not zero, and no column list over −1, 0, 1 for the same pair has fewer such ones
   pub counted : Columns.weight two cs ≡ w
-  pub fewest : (ds : List Column) → Columns.Small two ds → value (Columns.row two P ds) ≡ pos k → value (Columns.row two Q ds) ≡ pos l
+  pub fewest : (ds : List Column) → Columns.Small two ds → value (Columns.row two P ds) ≡ k → value (Columns.row two Q ds) ≡ l
       → w ≤ Columns.weight two ds
 
 -- where n places were written, the columns below n are such ones
-abbrev pub JointPromised : ℕ → ℕ → Recoded → List ℕ → List ℕ → Type 0
+abbrev pub JointPromised : ℤ → ℤ → Recoded → List ℕ → List ℕ → Type 0
 JointPromised k l BadScalar buffer buffer′ = Unit {0}
 JointPromised k l BadWindow buffer buffer′ = Unit {0}
 JointPromised k l NoRoom buffer buffer′ = Unit {0}

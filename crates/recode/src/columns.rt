@@ -7,11 +7,12 @@ ghost use lib.ListN.{length, replicate};
 ghost use Rattle.digits.specs.Column;
 ghost use Rattle.digits.specs.Limits.{card};
 ghost use Rattle.digits.specs.Scalar;
-ghost use Rattle.digits.specs.Scalar.{little, bitLength};
+ghost use Rattle.digits.specs.Scalar.{little, signedScalar, bitLength};
 ghost use Rattle.digits.specs.Two.{P, Q, two};
 ghost use Rattle.forms.specs.Joint;
 ghost use Rattle.recode.specs.Body.Remainder.{Held};
 ghost use Rattle.recode.specs.Body.Table.{DigitTable};
+ghost use Rattle.recode.specs.Call.Joint.{digitsOf};
 ghost use Rattle.recode.specs.Call.{number, wroteColumns, jointQuestion, jointAnswer, jointBuffer, JointPromised, filled};
 use crate::answer::Recoded;
 use crate::low::Low;
@@ -156,12 +157,41 @@ fn write_joint(k: &[u8], l: &[u8], k_out: &mut [u8], l_out: &mut [u8]) -> Recode
     )
 }
 
-// The joint sparse form of two scalars: the digits of each row, from place 0 on, in bytes of two's complement.
-pub fn joint(k: &[u8], l: &[u8], k_digits: &mut [u8], l_digits: &mut [u8]) -> Recoded
-    ensures answer { λ r. ⌜ r ≡ jointAnswer card (now (k .entry)) (now (l .entry)) (length (now («k_digits» .entry))) (length (now («l_digits» .entry))) ⌝ }
-    ensures first { λ _. ⌜ now («k_digits» .exit) ≡ jointBuffer card P (now (k .entry)) (now (l .entry)) (now («k_digits» .entry)) (now («l_digits» .entry)) ⌝ }
-    ensures second { λ _. ⌜ now («l_digits» .exit) ≡ jointBuffer card Q (now (k .entry)) (now (l .entry)) (now («k_digits» .entry)) (now («l_digits» .entry)) ⌝ }
-    ensures promised { λ r. ⌜ JointPromised (Scalar.scalar (now (k .entry))) (Scalar.scalar (now (l .entry))) r (now («k_digits» .exit)) (now («l_digits» .exit)) ⌝ }
+// Writes the joint columns of two scalars with signs: those of their bytes, and then each row's own sign.
+fn write_signed_joint(
+    k: &[u8],
+    k_sign: u32,
+    l: &[u8],
+    l_sign: u32,
+    k_out: &mut [u8],
+    l_out: &mut [u8],
+) -> Recoded
+    requires { ⌜ (length (now k) ≤ 66) × (length (now l) ≤ 66) ⌝ }
+    requires { ⌜ (8 * max (length (now k)) (length (now l)) + 1 ≤ length (now «k_out»)) × (8 * max (length (now k)) (length (now l)) + 1 ≤ length (now «l_out»)) ⌝ }
+    ensures { λ r. ⌜ r ≡ wroteColumns (Joint.joint (signedScalar (now (k .entry)) «k_sign») (signedScalar (now (l .entry)) «l_sign»)) ⌝ }
+    ensures { λ _. ⌜ now («k_out» .exit) ≡ filled (digitsOf P (now (k .entry)) «k_sign» (now (l .entry)) «l_sign») (now («k_out» .entry)) ⌝ }
+    ensures { λ _. ⌜ now («l_out» .exit) ≡ filled (digitsOf Q (now (k .entry)) «k_sign» (now (l .entry)) «l_sign») (now («l_out» .entry)) ⌝ }
+{
+    let answer = write_joint(k, l, k_out, l_out);
+    let places = answer.places();
+    crate::sign::give_sign(k_out, places, k_sign);
+    crate::sign::give_sign(l_out, places, l_sign);
+    answer
+}
+
+// The joint sparse form of two scalars with signs: the digits of each row, from place 0 on, in bytes of two's complement.
+pub fn joint(
+    k: &[u8],
+    k_sign: u32,
+    l: &[u8],
+    l_sign: u32,
+    k_digits: &mut [u8],
+    l_digits: &mut [u8],
+) -> Recoded
+    ensures answer { λ r. ⌜ r ≡ jointAnswer card (now (k .entry)) «k_sign» (now (l .entry)) «l_sign» (length (now («k_digits» .entry))) (length (now («l_digits» .entry))) ⌝ }
+    ensures first { λ _. ⌜ now («k_digits» .exit) ≡ jointBuffer card P (now (k .entry)) «k_sign» (now (l .entry)) «l_sign» (now («k_digits» .entry)) (now («l_digits» .entry)) ⌝ }
+    ensures second { λ _. ⌜ now («l_digits» .exit) ≡ jointBuffer card Q (now (k .entry)) «k_sign» (now (l .entry)) «l_sign» (now («k_digits» .entry)) (now («l_digits» .entry)) ⌝ }
+    ensures promised { λ r. ⌜ JointPromised (signedScalar (now (k .entry)) «k_sign») (signedScalar (now (l .entry)) «l_sign») r (now («k_digits» .exit)) (now («l_digits» .exit)) ⌝ }
     ensures question { λ r. ⌜ number r ≡ jointQuestion card (now (k .entry)) (now (l .entry)) (length (now («k_digits» .entry))) (length (now («l_digits» .entry))) ⌝ }
 {
     if digits::are_scalars(k, l) {
@@ -172,7 +202,7 @@ pub fn joint(k: &[u8], l: &[u8], k_digits: &mut [u8], l_digits: &mut [u8]) -> Re
         if l_digits.len() < room {
             return Recoded::NoRoom;
         }
-        return write_joint(k, l, k_digits, l_digits);
+        return write_signed_joint(k, k_sign, l, l_sign, k_digits, l_digits);
     }
     Recoded::BadScalar
 }

@@ -5,6 +5,7 @@ mod columns;
 mod digit;
 mod low;
 mod rows;
+mod sign;
 
 pub use answer::Recoded;
 pub use columns::joint;

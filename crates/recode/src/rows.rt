@@ -6,7 +6,7 @@ ghost use lib.ListN.{length, replicate};
 ghost use Rattle.digits.specs.Limits.{card};
 ghost use Rattle.digits.specs.Row.{widest};
 ghost use Rattle.digits.specs.Scalar;
-ghost use Rattle.digits.specs.Scalar.{little, bitLength};
+ghost use Rattle.digits.specs.Scalar.{little, signedScalar, bitLength};
 ghost use Rattle.forms.specs.Residue.{width};
 ghost use Rattle.forms.specs.Row.{row};
 ghost use Rattle.recode.specs.Call.{number, wroteRow, rowQuestion, rowAnswer, rowBuffer, RowPromised, filled};
@@ -88,11 +88,22 @@ fn write_row(scalar: &[u8], m: u16, out: &mut [u8]) -> Recoded
     write_digits(&bytes, used, m, half, &mut out[..places])
 }
 
-// The row of a scalar for the window m: its digits, from place 0 on, in bytes of two's complement.
-pub fn row(scalar: &[u8], m: u32, digits: &mut [u8]) -> Recoded
-    ensures answer { λ r. ⌜ r ≡ rowAnswer card (now (scalar .entry)) m (length (now (digits .entry))) ⌝ }
-    ensures buffer { λ _. ⌜ now (digits .exit) ≡ rowBuffer card (now (scalar .entry)) m (now (digits .entry)) ⌝ }
-    ensures promised { λ r. ⌜ RowPromised m (Scalar.scalar (now (scalar .entry))) r (now (digits .exit)) ⌝ }
+// Writes the row of a scalar with a sign: that of its bytes, and then its sign.
+fn write_signed_row(scalar: &[u8], sign: u32, m: u16, out: &mut [u8]) -> Recoded
+    requires { ⌜ (length (now scalar) ≤ 66) × ((1 ≤ m) × ((m ≤ widest) × (8 * length (now scalar) + 1 ≤ length (now out)))) ⌝ }
+    ensures { λ r. ⌜ r ≡ wroteRow (row m (signedScalar (now (scalar .entry)) sign)) ⌝ }
+    ensures { λ _. ⌜ now (out .exit) ≡ filled (row m (signedScalar (now (scalar .entry)) sign)) (now (out .entry)) ⌝ }
+{
+    let answer = write_row(scalar, m, out);
+    crate::sign::give_sign(out, answer.places(), sign);
+    answer
+}
+
+// The row of a scalar with a sign for the window m: its digits, from place 0 on, in bytes of two's complement.
+pub fn row(scalar: &[u8], sign: u32, m: u32, digits: &mut [u8]) -> Recoded
+    ensures answer { λ r. ⌜ r ≡ rowAnswer card (now (scalar .entry)) sign m (length (now (digits .entry))) ⌝ }
+    ensures buffer { λ _. ⌜ now (digits .exit) ≡ rowBuffer card (now (scalar .entry)) sign m (now (digits .entry)) ⌝ }
+    ensures promised { λ r. ⌜ RowPromised m (signedScalar (now (scalar .entry)) sign) r (now (digits .exit)) ⌝ }
     ensures question { λ r. ⌜ number r ≡ rowQuestion card (now (scalar .entry)) m (length (now (digits .entry))) ⌝ }
 {
     if digits::is_scalar(scalar) {
@@ -100,7 +111,7 @@ pub fn row(scalar: &[u8], m: u32, digits: &mut [u8]) -> Recoded
             if digits.len() < 8 * scalar.len() + 1 {
                 return Recoded::NoRoom;
             }
-            return write_row(scalar, m as u16, digits);
+            return write_signed_row(scalar, sign, m as u16, digits);
         }
         return Recoded::BadWindow;
     }

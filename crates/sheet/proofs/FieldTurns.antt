@@ -10,7 +10,7 @@ use native.Mathlib.Omega.{arith}
 use lib.Dec.{eqb, leb, ltb}
 use lib.ListN.{length, getD, drop, drop-of-length-le}
 use lib.Seq.{drop-cons}
-use borrow.Author.Tests.{lt-ltb, le-ltb, le-leb, lt-leb, ltb-true}
+use borrow.Author.Tests.{lt-ltb, le-ltb, le-leb, lt-leb, ltb-true, leb-true, not-true}
 use Rattle.sheet.specs.Numeral.{worth, padded, figures, followed, number}
 use Rattle.sheet.specs.Spelling.Field.{isNumeral, decimalOf}
 use Rattle.sheet.specs.declared.figures.Decimal.the-variants.{Is, None}
@@ -61,6 +61,13 @@ pub numeral-value : (base most : ℕ) (s : List ℕ) (b : Bool) → isNumeral ba
 unfolding number
 numeral-value base most s b e = rw e
 
+-- what a numeral is
+pub record Numeral (base most : ℕ) (s : List ℕ) : Type 0 where
+  pub some-figures : 1 ≤ length s
+  pub few : length s ≤ most
+  pub unpadded : padded s ≡ false
+  pub all : figures base s ≡ true
+
 -- the tests of a numeral, one after another
 module _ (base most : ℕ) (s : List ℕ) where
   pub none-empty : length s ≡ 0 → false ≡ isNumeral base most s
@@ -76,13 +83,13 @@ module _ (base most : ℕ) (s : List ℕ) where
     pub numeral-figures : false ≡ padded s → figures base s ≡ isNumeral base most s
     numeral-figures e = rw (le-leb 1 (length s) (omega arith), le-leb (length s) most h, ← e)
 
-  -- what a numeral is
-  pub numeral-parts : isNumeral base most s ≡ true → (length s ≤ most) × (figures base s ≡ true)
+  -- a numeral meets them all
+  pub numeral-parts : isNumeral base most s ≡ true → Numeral base most s
   numeral-parts e =
       let (abc, d) = and-eq-true-iff (leb 1 (length s) && leb (length s) most && not (padded s)) (figures base s) .0 e in
       let (ab, c) = and-eq-true-iff (leb 1 (length s) && leb (length s) most) (not (padded s)) .0 abc in
       let (a, b) = and-eq-true-iff (leb 1 (length s)) (leb (length s) most) .0 ab in
-      (borrow.Author.Tests.leb-true (length s) most b, d)
+      record { some-figures = leb-true 1 (length s) a; few = leb-true (length s) most b; unpadded = not-true (padded s) c; all = d }
 
 -- a decimal that was read, and none
 pub decimal-some : (o : Option ℕ) (n : ℕ) → decimalOf o ≡ Is n → o ≡ some n

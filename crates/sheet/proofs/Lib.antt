@@ -1,2 +1,3 @@
 pub mod CutTurns
 pub mod FieldTurns
+pub mod SignTurns

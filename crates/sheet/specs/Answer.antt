@@ -4,6 +4,7 @@ use mathlib.Core.Path.{_≡_}
 use mathlib.Core.List.{List, [], _∷_}
 use mathlib.Core.Option.{Option, none, some}
 use Prim.Native.Nat.{ℕ}
+use lib.IntN.{ℤ, pos}
 use Rattle.digits.specs.Limits.{Limits}
 use Rattle.sheet.specs.Plan.{slots}
 use Rattle.sheet.specs.Line.{interleaved, Header, plan, Line, header, table, load, double, add, end, misspelled}
@@ -23,7 +24,7 @@ ask q (some n) next = refused q n
 -- in place of a header that is missing; question 6 then answers
 abbrev pub noHeader : Header
 noHeader =
-    record { kind = interleaved; m1 = 0; m2 = 0; slots = 0; additions = 0; doublings = 0; k = 0; l = 0 }
+    record { kind = interleaved; m1 = 0; m2 = 0; slots = 0; additions = 0; doublings = 0; k = pos 0; l = pos 0 }
 
 -- the header of a sheet
 abbrev pub heading : List Line → Header
@@ -52,7 +53,7 @@ unfoldable pub answer : Limits → List ℕ → Answer
 answer limits s = ask 5 (tooLong limits s) (judged limits (heading (lines limits s)) (lines limits s))
 
 -- s is accepted for k and l: every question is met and the header carries k and l
-pub record Accepted (limits : Limits) (s : List ℕ) (k l : ℕ) : Type 0 where
+pub record Accepted (limits : Limits) (s : List ℕ) (k l : ℤ) : Type 0 where
   pub met : answer limits s ≡ accepted
   pub carries-k : heading (lines limits s) .k ≡ k
   pub carries-l : heading (lines limits s) .l ≡ l

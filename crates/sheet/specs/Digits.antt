@@ -3,7 +3,7 @@ pub mod Accepted
 use mathlib.Core.Path.{_≡_}
 use mathlib.Core.List.{List, [], _∷_}
 use Prim.Native.Nat.{ℕ, _+_, _-_}
-use lib.IntN.{ℤ, pos}
+use lib.IntN.{ℤ}
 use Rattle.digits.specs.Row.{value, Over}
 use Rattle.digits.specs.Row as Rows
 use Rattle.digits.specs.Column.{row, Small}
@@ -54,9 +54,9 @@ weight J cs = Columns.weight two cs
 weight (I m1 m2) cs = Rows.weight (rowP cs) + Rows.weight (rowQ cs)
 
 -- columns of the plan p that read k and l with a additions
-pub record Reads (p : Plan) (cs : List Column) (k l a : ℕ) : Type 0 where
+pub record Reads (p : Plan) (cs : List Column) (k l : ℤ) (a : ℕ) : Type 0 where
   pub fits : Fits p cs
-  pub reads-k : value (rowP cs) ≡ pos k
-  pub reads-l : value (rowQ cs) ≡ pos l
+  pub reads-k : value (rowP cs) ≡ k
+  pub reads-l : value (rowQ cs) ≡ l
   -- one addition for each of them but the load, and the table's; where there is no step, the table's alone
   pub costs : a ≡ tableAdditions p + (weight p cs - 1)

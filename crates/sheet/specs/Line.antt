@@ -1,5 +1,6 @@
 -- The lines of a sheet, with what each one says.
 use Prim.Native.Nat.{ℕ}
+use lib.IntN.{ℤ}
 use Rattle.sheet.specs.declared.Plan.{Plan}
 use Rattle.sheet.specs.declared.Plan.the-variants.{J, I}
 use Rattle.sheet.specs.Plan.{Point}
@@ -17,8 +18,8 @@ pub record Header : Type 0 where
   pub slots : ℕ
   pub additions : ℕ
   pub doublings : ℕ
-  pub k : ℕ
-  pub l : ℕ
+  pub k : ℤ
+  pub l : ℤ
 
 -- the lines
 pub data Line : Type 0 where

@@ -5,6 +5,7 @@ use mathlib.Core.Path.{_≡_}
 use mathlib.Core.Logic.{_≢_, _↔_}
 use mathlib.Core.List.{List, map}
 use Prim.Native.Nat.{ℕ, _+_, _%_, _≤_, min}
+use lib.IntN.{ℤ}
 use Rattle.digits.specs.Column.{row}
 use Rattle.digits.specs.Limits.{Limits}
 use Rattle.digits.specs.Row.{value, widest}
@@ -28,16 +29,16 @@ use Rattle.sheet.specs.Spelling.Spelled as Spelled
 use Rattle.sheet.specs.Spelling.Spelled.{Short}
 
 -- a sheet is accepted for k and l exactly when it is a sheet for k and l
-pub accepted-exactly : (limits : Limits) (s : List ℕ) (k l : ℕ) → Accepted limits s k l ↔ Sound limits s k l
+pub accepted-exactly : (limits : Limits) (s : List ℕ) (k l : ℤ) → Accepted limits s k l ↔ Sound limits s k l
 accepted-exactly = Exactly.accepted-exactly
 
 -- its header states the slots that it needs and its additions
-pub accepted-states : (limits : Limits) (s : List ℕ) (k l : ℕ) → Accepted limits s k l
+pub accepted-states : (limits : Limits) (s : List ℕ) (k l : ℤ) → Accepted limits s k l
     → (heading (lines limits s) .slots ≡ sheetSlots limits s) × (heading (lines limits s) .additions ≡ sheetAdditions limits s)
 accepted-states = Exactly.accepted-states
 
 -- the steps of an accepted sheet are columns of its plan that read k and l at the cost of its additions
-pub accepted-rows : (limits : Limits) (s : List ℕ) (k l : ℕ) → Accepted limits s k l
+pub accepted-rows : (limits : Limits) (s : List ℕ) (k l : ℤ) → Accepted limits s k l
     → Reads (plan (heading (lines limits s))) (columns (lines limits s)) k l (sheetAdditions limits s)
 accepted-rows = Steps.accepted-rows
 
@@ -54,7 +55,7 @@ pub read-spelled : (limits : Limits) (s : List ℕ) → Every (λ l. l ≢ missp
 read-spelled = Read.read-spelled
 
 -- an accepted sheet is the spelling of its lines
-pub accepted-spelled : (limits : Limits) (s : List ℕ) (k l : ℕ) → Accepted limits s k l → spell (lines limits s) ≡ s
+pub accepted-spelled : (limits : Limits) (s : List ℕ) (k l : ℤ) → Accepted limits s k l → spell (lines limits s) ≡ s
 accepted-spelled = Read.accepted-spelled
 
 -- the additions and the doublings of a plan's T lines

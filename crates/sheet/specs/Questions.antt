@@ -215,4 +215,4 @@ result ls = held (point (pos 0) (pos 0)) ls
 
 -- line 1, unless the result is kP + lQ
 unfoldable pub wrong : Header → List Line → Option ℕ
-wrong h ls = unless (samePoint (result ls) (point (pos (h .k)) (pos (h .l)))) 1
+wrong h ls = unless (samePoint (result ls) (point (h .k) (h .l))) 1

@@ -3,6 +3,7 @@
 use mathlib.Core.Path.{_≡_, refl}
 use mathlib.Core.List.{List, [], _∷_, map}
 use Prim.Native.Nat.{ℕ, zero, suc}
+use lib.IntN.{pos, negsuc}
 use Prim.Native.String.{String, _++_}
 use Rattle.digits.specs.Limits.{card}
 use Rattle.sheet.specs.Ascii.{ascii}
@@ -39,7 +40,7 @@ computed s = answer card s
 abbrev pub sheet : List ℕ
 sheet = ascii "S,I,1,1,0,2,3,7,2\nL,1,0\nD\nD\nA,0,1\nD\nA,-1,0\nE\n"
 
-pub sample : Accepted card sheet 7 2
+pub sample : Accepted card sheet (pos 7) (pos 2)
 unfolding computed
 sample = record { met = refl; carries-k = refl; carries-l = refl }
 
@@ -50,6 +51,14 @@ untrue = ascii "S,I,1,1,0,3,3,7,2\nL,1,0\nD\nD\nA,0,1\nD\nA,-1,0\nE\n"
 pub sample-untrue : answer card untrue ≡ refused 10 1
 unfolding computed
 sample-untrue = refl
+
+-- for −7, 2 each digit of P has the other sign
+abbrev pub negative : List ℕ
+negative = ascii "S,I,1,1,0,2,3,-7,2\nL,-1,0\nD\nD\nA,0,1\nD\nA,1,0\nE\n"
+
+pub sample-negative : Accepted card negative (negsuc 6) (pos 2)
+unfolding computed
+sample-negative = record { met = refl; carries-k = refl; carries-l = refl }
 
 -- a text n times
 unfoldable pub times : ℕ → String → String
@@ -84,6 +93,17 @@ cases =
     ∷ ("S,I,1,1,0,0,10000,0,0\nE\n", refused 6 1)
     ∷ ("S,I,1,1,0,0,0," ++ times 132 "f" ++ ",0\nE\n", refused 11 1)
     ∷ ("S,I,1,1,0,0,0," ++ times 133 "f" ++ ",0\nE\n", refused 6 1)
+    -- a minus before a scalar: its figures are 132 without it; -0, two minuses, none but a minus, one behind a zero
+    ∷ ("S,I,1,1,0,0,0,-1,0\nL,-1,0\nE\n", accepted)
+    ∷ ("S,I,1,1,0,0,0,0,-1\nL,0,-1\nE\n", accepted)
+    ∷ ("S,I,1,1,0,0,0,-" ++ times 132 "f" ++ ",0\nE\n", refused 11 1)
+    ∷ ("S,I,1,1,0,0,0,-" ++ times 133 "f" ++ ",0\nE\n", refused 6 1)
+    ∷ ("S,I,1,1,0,0,0,-0,0\nE\n", refused 6 1)
+    ∷ ("S,I,1,1,0,0,0,0,-0\nE\n", refused 6 1)
+    ∷ ("S,I,1,1,0,0,0,--1,0\nL,-1,0\nE\n", refused 6 1)
+    ∷ ("S,I,1,1,0,0,0,-,0\nE\n", refused 6 1)
+    ∷ ("S,I,1,1,0,0,0,-01,0\nL,-1,0\nE\n", refused 6 1)
+    ∷ ("S,I,1,-1,0,0,0,0,0\nE\n", refused 6 1)
     -- no S, two S, an A before L, two L, a T behind L
     ∷ ("E\n", refused 6 1)
     ∷ ("S,I,1,1,0,0,0,0,0\nS,I,1,1,0,0,0,0,0\nE\n", refused 6 2)
@@ -132,6 +152,8 @@ cases =
     -- the result off in l, and in sign
     ∷ ("S,I,1,1,0,0,0,1,1\nL,1,0\nE\n", refused 11 1)
     ∷ ("S,I,1,1,0,0,0,1,0\nL,-1,0\nE\n", refused 11 1)
+    ∷ ("S,I,1,1,0,0,0,-1,0\nL,1,0\nE\n", refused 11 1)
+    ∷ ("S,I,1,1,0,2,3,-7,2\nL,1,0\nD\nD\nA,0,1\nD\nA,-1,0\nE\n", refused 11 1)
     -- digits that are not ours: 1, −1, −1 for 1
     ∷ ("S,I,1,1,0,2,2,1,0\nL,1,0\nD\nA,-1,0\nD\nA,-1,0\nE\n", accepted)
     -- several faults: the first question decides, not the first line

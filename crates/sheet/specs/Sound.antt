@@ -5,7 +5,7 @@ use mathlib.Core.List.{List, [], _∷_, _++_, map}
 use Prim.Native.Nat.{ℕ, suc, _%_, _≤_, _<_}
 use lib.Dec.{T}
 use lib.ListN.{length}
-use lib.IntN.{pos, natAbs}
+use lib.IntN.{ℤ, pos, natAbs}
 use Rattle.digits.specs.Limits.{Limits}
 use Rattle.digits.specs.Two.{blank}
 use Rattle.sheet.specs.declared.Plan.{Plan}
@@ -83,7 +83,7 @@ pub data Allowed (p : Plan) : Steps → Type 0 where
   loads : {j : ℕ} {t : Point} {ms : Moves} → Turn p j t → AllowedMoves p j ms → Allowed p (loaded t ms)
 
 -- s is a sheet for k and l
-pub record Sound (limits : Limits) (s : List ℕ) (k l : ℕ) : Type 0 where
+pub record Sound (limits : Limits) (s : List ℕ) (k l : ℤ) : Type 0 where
   pub head : Header
   pub steps : Steps
   -- it is at most as long as a sheet may be
@@ -105,4 +105,4 @@ pub record Sound (limits : Limits) (s : List ℕ) (k l : ℕ) : Type 0 where
   pub carries-k : head .k ≡ k
   pub carries-l : head .l ≡ l
   -- the steps come to kP + lQ
-  pub reads : result (lines limits s) ≡ point (pos k) (pos l)
+  pub reads : result (lines limits s) ≡ point k l

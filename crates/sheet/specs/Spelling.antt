@@ -3,6 +3,7 @@ pub mod Spelled
 pub mod Read
 pub mod Cut
 pub mod Field
+pub mod Whole
 use mathlib.Core.Bool.{cond}
 use mathlib.Core.List.{List, [], _∷_, _++_}
 use mathlib.Core.Option.{Option, none, some}
@@ -25,20 +26,28 @@ lineFeed = code "\n"
 abbrev pub comma : ℕ
 comma = code ","
 
+-- the byte before the figures of a negative number
+abbrev pub minus : ℕ
+minus = code "-"
+
 -- ── lines to bytes ──────────────────────────────────────────────────────────────────────────
 
 -- a decimal, with no leading zeros
 abbrev pub decimal : ℕ → List ℕ
 decimal n = numeral 10 n
 
--- a scalar: lower-case hexadecimal, no leading zero, `0` for zero
-abbrev pub scalar : ℕ → List ℕ
-scalar n = numeral 16 n
+-- a whole number in figures of a base, with a minus before them if negative
+abbrev pub whole : ℕ → ℤ → List ℕ
+whole base (pos n) = numeral base n
+whole base (negsuc n) = minus ∷ numeral base (suc n)
 
--- a digit: a decimal, with a minus if negative
+-- a scalar: lower-case hexadecimal, no leading zero, `0` for zero
+abbrev pub scalar : ℤ → List ℕ
+scalar z = whole 16 z
+
+-- a digit: a decimal
 abbrev pub digit : ℤ → List ℕ
-digit (pos n) = numeral 10 n
-digit (negsuc n) = code "-" ∷ numeral 10 (suc n)
+digit z = whole 10 z
 
 -- the kind of a header
 abbrev pub kind : Kind → List ℕ
@@ -102,10 +111,6 @@ readKind f = cond (eqb (letter f) (code "J")) (some joint) (cond (eqb (letter f)
 abbrev pub readDecimal : List ℕ → Option ℕ
 readDecimal f = number 10 4 f
 
--- a scalar of as many hexadecimal figures as the limits allow
-abbrev pub readScalar : Limits → List ℕ → Option ℕ
-readScalar limits f = number 16 (limits .figures) f
-
 -- without a minus
 abbrev pub plain : Option ℕ → Option ℤ
 plain none = none
@@ -117,10 +122,18 @@ negative none = none
 negative (some zero) = none
 negative (some (suc n)) = some (negsuc n)
 
--- a decimal of one or two figures, with a minus if negative
+-- a whole number of 1 to `most` figures of the base; the minus is none of them
+abbrev pub readWhole : ℕ → ℕ → List ℕ → Option ℤ
+readWhole base most [] = none
+readWhole base most (c ∷ s) = cond (eqb c minus) (negative (number base most s)) (plain (number base most (c ∷ s)))
+
+-- a scalar of as many hexadecimal figures as the limits allow
+abbrev pub readScalar : Limits → List ℕ → Option ℤ
+readScalar limits f = readWhole 16 (limits .figures) f
+
+-- a digit of one or two decimal figures
 abbrev pub readDigit : List ℕ → Option ℤ
-readDigit [] = none
-readDigit (c ∷ s) = cond (eqb c (code "-")) (negative (number 10 2 s)) (plain (number 10 2 (c ∷ s)))
+readDigit f = readWhole 10 2 f
 
 -- one thing read after another; nothing, where one of them cannot be read
 infixl 1 _>>=_

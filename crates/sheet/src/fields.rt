@@ -1,13 +1,17 @@
 ghost use mathlib.Core.Path.{_≡_};
+ghost use mathlib.Core.Bool.{not, _&&_};
 ghost use mathlib.Core.List.{[]};
 ghost use Prim.Native.Nat.{_≤_, _<_};
+ghost use lib.Dec.{eqb};
 ghost use lib.ListN.{length, getD};
 ghost use Rattle.digits.specs.Limits.{card};
 ghost use Rattle.sheet.specs.Spelling.{comma, cut, letter, readDecimal};
-ghost use Rattle.sheet.specs.Spelling.Field.{First, Behind, isNumeral, decimalOf};
+ghost use Rattle.sheet.specs.Spelling.Field.{First, Behind, signOf, unsigned, isWhole, decimalOf};
 use crate::figures::Decimal;
 
 const COMMA: u8 = b',';
+
+const MINUS: u8 = b'-';
 
 // The figures of a decimal, and those of a scalar.
 const DECIMAL_FIGURES: usize = 4;
@@ -89,9 +93,49 @@ pub fn decimal_at(s: &[u8], k: usize) -> Decimal
     crate::figures::decimal_of(field(s, k), DECIMAL_FIGURES)
 }
 
+// The sign of a field: 1 where a minus stands first, else 0.
+pub fn sign_of(field: &[u8]) -> u32
+    ensures { λ r. ⌜ (r ≡ signOf (now (field .entry))) × (r ≤ length (now (field .entry))) ⌝ }
+{
+    if field.len() == 0 {
+        return 0;
+    }
+    if field[0] == MINUS { 1 } else { 0 }
+}
+
+// A field without its minus.
+pub fn unsigned(field: &[u8]) -> &[u8]
+    ensures { λ r. ⌜ now r ≡ unsigned (now (field .entry)) ⌝ }
+{
+    let sign = sign_of(field) as usize;
+    &field[sign..]
+}
+
+// Whether figures that are a numeral may stand behind a sign: a minus is not put before 0.
+fn is_signed(sign: u32, figures: &[u8]) -> bool
+    requires { ⌜ 1 ≤ length (now figures) ⌝ }
+    ensures { λ r. ⌜ r ≡ not (eqb sign 1 && eqb (getD (now (figures .entry)) 0 0) 48) ⌝ }
+{
+    if sign == 1 {
+        return figures[0] != b'0';
+    }
+    true
+}
+
+// Whether a field is a scalar, with a minus if negative.
+fn is_scalar(field: &[u8]) -> bool
+    ensures { λ r. ⌜ r ≡ isWhole 16 (card .figures) (now (field .entry)) ⌝ }
+{
+    let figures = unsigned(field);
+    if crate::figures::is_numeral(figures, 16, SCALAR_FIGURES) {
+        return is_signed(sign_of(field), figures);
+    }
+    false
+}
+
 // Whether the field at k is a scalar.
 pub fn is_scalar_at(s: &[u8], k: usize) -> bool
-    ensures { λ r. ⌜ r ≡ isNumeral 16 (card .figures) (getD (cut comma (now (s .entry))) k []) ⌝ }
+    ensures { λ r. ⌜ r ≡ isWhole 16 (card .figures) (getD (cut comma (now (s .entry))) k []) ⌝ }
 {
-    crate::figures::is_numeral(field(s, k), 16, SCALAR_FIGURES)
+    is_scalar(field(s, k))
 }

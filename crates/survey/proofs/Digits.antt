@@ -7,13 +7,13 @@ use native.Mathlib.Nat.{mul-le-mul, pow-suc}
 use native.Mathlib.Omega.{arith}
 use lib.Dec.{eqb}
 use lib.IntN.{ℤ, pos, _+ℤ_, _*ℤ_}
-use lib.ListN.{length, getD, drop, set, replicate, length-set, length-replicate}
+use lib.ListN.{length, getD, set, replicate, length-set, length-replicate}
 use lib.Pow.{pow-add, pow-mono, shl-exact}
-use lib.Seq.{drop-cons, getD-set-same, getD-set-other}
+use lib.Seq.{getD-set-same, getD-set-other}
 use borrow.Author.Tests.{eqb-true, eqb-false}
 use Rattle.digits.specs.Integer.{up, down}
 use Rattle.digits.specs.Integer.Parts.{negation, sum, times}
-use Rattle.lines.specs.Coded.{whole, wholeOf}
+use Rattle.lines.specs.Coded.{whole, numberOf}
 use Rattle.lines.specs.declared.point.Signed.{Signed}
 use Rattle.survey.specs.Sum.{limb, limbs, start, unit, value, empty, Near, Holds}
 
@@ -24,28 +24,23 @@ starts zero i h = absurd (omega arith)
 starts (suc n) zero h = refl
 starts (suc n) (suc i) h = starts n i (omega arith)
 
-pub empty-limb : (i : ℕ) → i < limbs → getD empty i 0 ≡ start
+empty-limb : (i : ℕ) → i < limbs → getD empty i 0 ≡ start
 unfolding empty
 empty-limb i h = starts limbs i h
 
-pub empty-long : length empty ≡ limbs
+empty-long : length empty ≡ limbs
 unfolding empty
 empty-long = length-replicate {A = ℕ} limbs start
-
--- from a limb on
-pub empty-drop : (i : ℕ) → i < limbs → value (drop i empty) ≡ start + limb * value (drop (suc i) empty)
-unfolding value
-empty-drop i h = ap value (drop-cons empty i 0 (omega (arith, empty-long))) ∙ ap (λ (n : ℕ). n + limb * value (drop (suc i) empty)) (empty-limb i h)
 
 -- ── a digit by its sign and its size ────────────────────────────────────────────────────────
 
 pub sign-minus : (s : Signed) → s .negative ≡ true → (up (whole s) ≡ 0) × (down (whole s) ≡ s .size)
 sign-minus s e =
-    subst (λ (b : Bool). (up (wholeOf b (s .size)) ≡ 0) × (down (wholeOf b (s .size)) ≡ s .size)) (sym e)
+    subst (λ (b : Bool). (up (numberOf b (s .size)) ≡ 0) × (down (numberOf b (s .size)) ≡ s .size)) (sym e)
     (negation (pos (s .size)) .0, negation (pos (s .size)) .1)
 
 pub sign-plus : (s : Signed) → s .negative ≡ false → (up (whole s) ≡ s .size) × (down (whole s) ≡ 0)
-sign-plus s e = subst (λ (b : Bool). (up (wholeOf b (s .size)) ≡ s .size) × (down (wholeOf b (s .size)) ≡ 0)) (sym e) (refl, refl)
+sign-plus s e = subst (λ (b : Bool). (up (numberOf b (s .size)) ≡ s .size) × (down (numberOf b (s .size)) ≡ 0)) (sym e) (refl, refl)
 
 -- ── a digit at its place ────────────────────────────────────────────────────────────────────
 

@@ -11,7 +11,7 @@ mod table;
 mod totals;
 
 pub use limbs::LIMBS;
-pub use limbs::START;
+pub use limbs::empty;
 pub use questions::Reading;
 pub use questions::Survey;
 pub use questions::surveyed;

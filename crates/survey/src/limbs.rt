@@ -6,7 +6,7 @@ ghost use Rattle.survey.specs.Sum.{Roomy, Holds, Added};
 use lines::Signed;
 
 // What each limb begins with, so that a digit can be taken off it.
-pub const START: u64 = 4611686018427387904;
+const START: u64 = 4611686018427387904;
 
 // The limbs of a sum.
 pub const LIMBS: usize = 34;

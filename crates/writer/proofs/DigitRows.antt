@@ -8,14 +8,15 @@ use native.Mathlib.Omega.{arith}
 use lib.IntN.{ℤ, pos, natAbs}
 use lib.ListN.{length, getD, replicate, List·getD-map}
 use borrow.Author.Tests.{le-leb}
-use Rattle.digits.specs.Scalar.Sized.{both, some-bytes, bounded}
+use Rattle.digits.specs.Scalar.Sized.{both, some-bytes}
+use Rattle.digits.specs.Scalar.Signed.{signed-bounded}
 use Rattle.digits.specs.Byte.{byteOf}
 use Rattle.digits.specs.Scalar.{Bytes}
 use Rattle.digits.specs.Column.{row, Small}
 use Rattle.digits.specs.Limits.{card}
 use Rattle.digits.specs.Row as Rows
 use Rattle.digits.specs.Row.{Digit, Over, isWindow}
-use Rattle.digits.specs.Scalar.{scalar, sized}
+use Rattle.digits.specs.Scalar.{signedScalar, sized}
 use Rattle.digits.specs.Two.{Column, Two, P, Q, digit, two, blankColumn}
 use Rattle.forms.specs.Joint.{joint}
 use Rattle.forms.specs.Joint.Value.{joint-small}
@@ -57,15 +58,15 @@ digit-at ds buffer i h =
 -- ── question 1 and the scalars ──────────────────────────────────────────────────────────────
 
 -- a scalar of at most 66 bytes
-pub in-bounds : (s : List ℕ) → Bytes s → sized card s ≡ true → Bounded (scalar s)
+pub in-bounds : (s : List ℕ) (sign : ℕ) → Bytes s → sized card s ≡ true → Bounded (signedScalar s sign)
 unfolding Bounded
-in-bounds s h e = bounded s h e
+in-bounds s sign h e = signed-bounded s sign h e
 
 room-enough : (n : ℕ) → n ≤ 66 → roomy n 529 ≡ true
 room-enough n h = le-leb (8 * n + 1) 529 (omega arith)
 
 -- the places of a plan's digits, and how many of them the plan counts
-abbrev pub Counts : Plan → ℕ → ℕ → ℕ → ℕ → Type 0
+abbrev pub Counts : Plan → ℤ → ℤ → ℕ → ℕ → Type 0
 Counts plan k l places counted = (places ≡ length (digits plan k l)) × (counted ≡ weight plan (digits plan k l))
 
 -- ── the joint form ──────────────────────────────────────────────────────────────────────────
@@ -81,8 +82,8 @@ unfolding row
 row-at cs i P = List·getD-map (λ (c : Column). digit c P) cs i blankColumn
 row-at cs i Q = List·getD-map (λ (c : Column). digit c Q) cs i blankColumn
 
-module _ (k l : List ℕ) (sizes : (sized card k && sized card l) ≡ true) where
-  joint-answer : jointAnswer card k l 529 529 ≡ wroteColumns (joint (pos (scalar k)) (pos (scalar l)))
+module _ (k : List ℕ) (k-sign : ℕ) (l : List ℕ) (l-sign : ℕ) (sizes : (sized card k && sized card l) ≡ true) where
+  joint-answer : jointAnswer card k k-sign l l-sign 529 529 ≡ wroteColumns (joint (signedScalar k k-sign) (signedScalar l l-sign))
   unfolding jointAnswer
   joint-answer =
       let (a, b) = both (sized card k) (sized card l) sizes in
@@ -90,33 +91,33 @@ module _ (k l : List ℕ) (sizes : (sized card k && sized card l) ≡ true) wher
       rw (a, b, room-enough (max (length k) (length l)) m)
 
   -- the length and the weight that the joint call returns
-  pub joint-counts : {r : Recoded} {places counted : ℕ} → r ≡ jointAnswer card k l 529 529 → places ≡ placesWritten r → counted ≡ weightWritten r
-      → Counts J (scalar k) (scalar l) places counted
+  pub joint-counts : {r : Recoded} {places counted : ℕ} → r ≡ jointAnswer card k k-sign l l-sign 529 529 → places ≡ placesWritten r → counted ≡ weightWritten r
+      → Counts J (signedScalar k k-sign) (signedScalar l l-sign) places counted
   unfolding digits
   joint-counts e f g = (f ∙ ap placesWritten (e ∙ joint-answer), g ∙ ap weightWritten (e ∙ joint-answer))
 
-module _ (k l p q : List ℕ) (sizes : (sized card k && sized card l) ≡ true) (p-long : length p ≡ 529) (q-long : length q ≡ 529) where
-  buffer-row : (r : Two) (b : List ℕ) → jointBuffer card r k l p q ≡ b → (u : List ℕ) → jointBuffer card r k l p q ≡ filled (row two r (joint (pos (scalar k)) (pos (scalar l)))) u
-      → (i : ℕ) → signed (getD b i 0) ≡ digit (getD (joint (pos (scalar k)) (pos (scalar l))) i blankColumn) r
+module _ (k : List ℕ) (k-sign : ℕ) (l : List ℕ) (l-sign : ℕ) (p q : List ℕ) (sizes : (sized card k && sized card l) ≡ true) (p-long : length p ≡ 529) (q-long : length q ≡ 529) where
+  buffer-row : (r : Two) (b : List ℕ) → jointBuffer card r k k-sign l l-sign p q ≡ b → (u : List ℕ) → jointBuffer card r k k-sign l l-sign p q ≡ filled (row two r (joint (signedScalar k k-sign) (signedScalar l l-sign))) u
+      → (i : ℕ) → signed (getD b i 0) ≡ digit (getD (joint (signedScalar k k-sign) (signedScalar l l-sign)) i blankColumn) r
   buffer-row r b e u f i =
-      let cs : List Column = joint (pos (scalar k)) (pos (scalar l)) in
+      let cs : List Column = joint (signedScalar k k-sign) (signedScalar l l-sign) in
       ap (λ (x : List ℕ). signed (getD x i 0)) (sym e ∙ f)
       ∙ digit-at (row two r cs) u i (subst (λ (z : ℤ). natAbs z < 128) (sym (row-at cs i r)) (small r))
       ∙ row-at cs i r
     where
-      small : (r : Two) → natAbs (digit (getD (joint (pos (scalar k)) (pos (scalar l))) i blankColumn) r) < 128
-      small r = omega (arith, small-at (joint (pos (scalar k)) (pos (scalar l))) (joint-small (pos (scalar k)) (pos (scalar l))) i r)
+      small : (r : Two) → natAbs (digit (getD (joint (signedScalar k k-sign) (signedScalar l l-sign)) i blankColumn) r) < 128
+      small r = omega (arith, small-at (joint (signedScalar k k-sign) (signedScalar l l-sign)) (joint-small (signedScalar k k-sign) (signedScalar l l-sign)) i r)
 
-  filled-p : jointBuffer card P k l p q ≡ filled (row two P (joint (pos (scalar k)) (pos (scalar l)))) p
+  filled-p : jointBuffer card P k k-sign l l-sign p q ≡ filled (row two P (joint (signedScalar k k-sign) (signedScalar l l-sign))) p
   unfolding jointBuffer
-  filled-p = ap (λ (a : Recoded). left a (row two P (joint (pos (scalar k)) (pos (scalar l)))) p) (ap₂ (jointAnswer card k l) p-long q-long ∙ joint-answer k l sizes)
+  filled-p = ap (λ (a : Recoded). left a (row two P (joint (signedScalar k k-sign) (signedScalar l l-sign))) p) (ap₂ (jointAnswer card k k-sign l l-sign) p-long q-long ∙ joint-answer k k-sign l l-sign sizes)
 
-  filled-q : jointBuffer card Q k l p q ≡ filled (row two Q (joint (pos (scalar k)) (pos (scalar l)))) q
+  filled-q : jointBuffer card Q k k-sign l l-sign p q ≡ filled (row two Q (joint (signedScalar k k-sign) (signedScalar l l-sign))) q
   unfolding jointBuffer
-  filled-q = ap (λ (a : Recoded). left a (row two Q (joint (pos (scalar k)) (pos (scalar l)))) q) (ap₂ (jointAnswer card k l) p-long q-long ∙ joint-answer k l sizes)
+  filled-q = ap (λ (a : Recoded). left a (row two Q (joint (signedScalar k k-sign) (signedScalar l l-sign))) q) (ap₂ (jointAnswer card k k-sign l l-sign) p-long q-long ∙ joint-answer k k-sign l l-sign sizes)
 
   -- the buffers hold the joint columns
-  pub joint-holds : {p′ q′ : List ℕ} → p′ ≡ jointBuffer card P k l p q → q′ ≡ jointBuffer card Q k l p q → Holds p′ q′ (digits J (scalar k) (scalar l))
+  pub joint-holds : {p′ q′ : List ℕ} → p′ ≡ jointBuffer card P k k-sign l l-sign p q → q′ ≡ jointBuffer card Q k k-sign l l-sign p q → Holds p′ q′ (digits J (signedScalar k k-sign) (signedScalar l l-sign))
   unfolding digits
   joint-holds {p′} {q′} e f =
       record { columns = λ i. ap₂ point (buffer-row P p′ (sym e) p filled-p i) (buffer-row Q q′ (sym f) q filled-q i) }
@@ -132,51 +133,51 @@ over-at [] o i = omega arith
 over-at (d ∷ ds) (Over.more x o) zero = digit-small x
 over-at (d ∷ ds) (Over.more x o) (suc i) = over-at ds o i
 
-module _ (s : List ℕ) (m : ℕ) (size : sized card s ≡ true) (window : isWindow m ≡ true) where
-  row-answer : rowAnswer card s m 529 ≡ wroteRow (Row.row m (pos (scalar s)))
+module _ (s : List ℕ) (sign m : ℕ) (size : sized card s ≡ true) (window : isWindow m ≡ true) where
+  row-answer : rowAnswer card s sign m 529 ≡ wroteRow (Row.row m (signedScalar s sign))
   unfolding rowAnswer
   row-answer = rw (size, window, room-enough (length s) (some-bytes card s size .1))
 
-  row-counts : {r : Recoded} → r ≡ rowAnswer card s m 529
-      → (placesWritten r ≡ length (Row.row m (pos (scalar s)))) × (weightWritten r ≡ Rows.weight (Row.row m (pos (scalar s))))
+  row-counts : {r : Recoded} → r ≡ rowAnswer card s sign m 529
+      → (placesWritten r ≡ length (Row.row m (signedScalar s sign))) × (weightWritten r ≡ Rows.weight (Row.row m (signedScalar s sign)))
   row-counts e = (ap placesWritten (e ∙ row-answer), ap weightWritten (e ∙ row-answer))
 
-module _ (s : List ℕ) (m : ℕ) (b : List ℕ) (size : sized card s ≡ true) (window : isWindow m ≡ true) (long : length b ≡ 529) where
-  row-filled : rowBuffer card s m b ≡ filled (Row.row m (pos (scalar s))) b
+module _ (s : List ℕ) (sign m : ℕ) (b : List ℕ) (size : sized card s ≡ true) (window : isWindow m ≡ true) (long : length b ≡ 529) where
+  row-filled : rowBuffer card s sign m b ≡ filled (Row.row m (signedScalar s sign)) b
   unfolding rowBuffer
-  row-filled = ap (λ (a : Recoded). left a (Row.row m (pos (scalar s))) b) (ap (rowAnswer card s m) long ∙ row-answer s m size window)
+  row-filled = ap (λ (a : Recoded). left a (Row.row m (signedScalar s sign)) b) (ap (rowAnswer card s sign m) long ∙ row-answer s sign m size window)
 
-  row-digit : {b′ : List ℕ} → b′ ≡ rowBuffer card s m b → (i : ℕ) → signed (getD b′ i 0) ≡ getD (Row.row m (pos (scalar s))) i (pos 0)
+  row-digit : {b′ : List ℕ} → b′ ≡ rowBuffer card s sign m b → (i : ℕ) → signed (getD b′ i 0) ≡ getD (Row.row m (signedScalar s sign)) i (pos 0)
   row-digit {b′} e i =
       let w : Window m = window-of m window in
-      let ds : List ℤ = Row.row m (pos (scalar s)) in
+      let ds : List ℤ = Row.row m (signedScalar s sign) in
       ap (λ (x : List ℕ). signed (getD x i 0)) (e ∙ row-filled)
-      ∙ digit-at ds b i (omega (arith, over-at ds (row-digits m (pos (scalar s)) (window-positive w)) i, w .within))
+      ∙ digit-at ds b i (omega (arith, over-at ds (row-digits m (signedScalar s sign) (window-positive w)) i, w .within))
 
-module _ (k l : List ℕ) (m1 m2 : ℕ) (sizes : (sized card k && sized card l) ≡ true) (windows : (isWindow m1 && isWindow m2) ≡ true) where
+module _ (k : List ℕ) (k-sign : ℕ) (l : List ℕ) (l-sign : ℕ) (m1 m2 : ℕ) (sizes : (sized card k && sized card l) ≡ true) (windows : (isWindow m1 && isWindow m2) ≡ true) where
   -- the longer of the two lengths, and the weights together
-  pub rows-counts : {r s : Recoded} {places counted : ℕ} → r ≡ rowAnswer card k m1 529 → s ≡ rowAnswer card l m2 529
-      → places ≡ max (placesWritten r) (placesWritten s) → counted ≡ weightWritten r + weightWritten s → Counts (I m1 m2) (scalar k) (scalar l) places counted
+  pub rows-counts : {r s : Recoded} {places counted : ℕ} → r ≡ rowAnswer card k k-sign m1 529 → s ≡ rowAnswer card l l-sign m2 529
+      → places ≡ max (placesWritten r) (placesWritten s) → counted ≡ weightWritten r + weightWritten s → Counts (I m1 m2) (signedScalar k k-sign) (signedScalar l l-sign) places counted
   unfolding digits
   rows-counts e f g h =
       let (u, v) = both (sized card k) (sized card l) sizes in
       let (w, y) = both (isWindow m1) (isWindow m2) windows in
-      let first = row-counts k m1 u w e in
-      let second = row-counts l m2 v y f in
-      let heavy = paired-weight (Row.row m1 (pos (scalar k))) (Row.row m2 (pos (scalar l))) in (
-        g ∙ ap₂ max (first .0) (second .0) ∙ sym (paired-length (Row.row m1 (pos (scalar k))) (Row.row m2 (pos (scalar l)))),
+      let first = row-counts k k-sign m1 u w e in
+      let second = row-counts l l-sign m2 v y f in
+      let heavy = paired-weight (Row.row m1 (signedScalar k k-sign)) (Row.row m2 (signedScalar l l-sign)) in (
+        g ∙ ap₂ max (first .0) (second .0) ∙ sym (paired-length (Row.row m1 (signedScalar k k-sign)) (Row.row m2 (signedScalar l l-sign))),
         h ∙ ap₂ (λ (a b : ℕ). a + b) (first .1 ∙ sym (heavy .0)) (second .1 ∙ sym (heavy .1)),
       )
 
-module _ (k l p q : List ℕ) (m1 m2 : ℕ) (sizes : (sized card k && sized card l) ≡ true) (windows : (isWindow m1 && isWindow m2) ≡ true) (p-long : length p ≡ 529) (q-long : length q ≡ 529) where
+module _ (k : List ℕ) (k-sign : ℕ) (l : List ℕ) (l-sign : ℕ) (p q : List ℕ) (m1 m2 : ℕ) (sizes : (sized card k && sized card l) ≡ true) (windows : (isWindow m1 && isWindow m2) ≡ true) (p-long : length p ≡ 529) (q-long : length q ≡ 529) where
   -- the buffers hold the two rows
-  pub rows-hold : {p′ q′ : List ℕ} → p′ ≡ rowBuffer card k m1 p → q′ ≡ rowBuffer card l m2 q → Holds p′ q′ (digits (I m1 m2) (scalar k) (scalar l))
+  pub rows-hold : {p′ q′ : List ℕ} → p′ ≡ rowBuffer card k k-sign m1 p → q′ ≡ rowBuffer card l l-sign m2 q → Holds p′ q′ (digits (I m1 m2) (signedScalar k k-sign) (signedScalar l l-sign))
   unfolding digits
   rows-hold e f =
       let (u, v) = both (sized card k) (sized card l) sizes in
       let (w, y) = both (isWindow m1) (isWindow m2) windows in
       record {
         columns = λ i.
-            ap₂ point (row-digit k m1 p u w p-long e i) (row-digit l m2 q v y q-long f i)
-            ∙ sym (paired-at (Row.row m1 (pos (scalar k))) (Row.row m2 (pos (scalar l))) i);
+            ap₂ point (row-digit k k-sign m1 p u w p-long e i) (row-digit l l-sign m2 q v y q-long f i)
+            ∙ sym (paired-at (Row.row m1 (signedScalar k k-sign)) (Row.row m2 (signedScalar l l-sign)) i);
       }

@@ -7,5 +7,6 @@ pub mod StepBytes
 pub mod TableBytes
 pub mod MovesLoop
 pub mod SheetBytes
+pub mod Signs
 pub mod DigitRows
 pub mod PlanAnswers

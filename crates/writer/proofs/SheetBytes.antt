@@ -6,6 +6,7 @@ use Prim.Native.Nat.{ℕ, zero, suc, _+_, _-_, _≤_}
 use native.Mathlib.Nat.{le-trans}
 use native.Mathlib.Omega.{arith}
 use lib.Dec.{T}
+use lib.IntN.{ℤ}
 use lib.ListN.{length, getD, take}
 use lib.Seq.{take-suc, take-length}
 use Rattle.digits.specs.Two.{Column, blank, blankColumn}
@@ -17,7 +18,7 @@ use Rattle.sheet.specs.Line.{Header, Line, header, table, end}
 use Rattle.sheet.specs.Numeral.{numeral}
 use Rattle.sheet.specs.Plan.{Point, slots, tables, tableAdditions, tableDoublings, largest}
 use Rattle.sheet.specs.Sound.{Steps, stepLines, sheetLines}
-use Rattle.sheet.specs.Spelling.{comma, lineFeed, kind, join, spell}
+use Rattle.sheet.specs.Spelling.{comma, lineFeed, scalar, kind, join, spell}
 use Rattle.written.specs.Promise.{written-fits, written-cost, written-few, written-places, written-header, written-doublings}
 use Rattle.written.specs.Written.Lengths.{spell-append}
 use Rattle.written.specs.Written.Columns.{digits-top}
@@ -43,8 +44,8 @@ spell-header h ls =
     let sl : List ℕ = numeral 10 (h .slots) in
     let ad : List ℕ = numeral 10 (h .additions) in
     let db : List ℕ = numeral 10 (h .doublings) in
-    let k : List ℕ = numeral 16 (h .k) in
-    let l : List ℕ = numeral 16 (h .l) in
+    let k : List ℕ = scalar (h .k) in
+    let l : List ℕ = scalar (h .l) in
     let letters : List ℕ = lettersOf (kind (h .kind)) in
     let decimals : List ℕ = decimalsOf (h .m1) (h .m2) (h .slots) (h .additions) (h .doublings) in
     let scalars : List ℕ = scalarsOf (h .k) (h .l) in
@@ -57,7 +58,7 @@ windows-of : (plan : Plan) → (first plan ≡ largest plan .p) × (second plan 
 windows-of J = (refl, refl)
 windows-of (I m1 m2) = (refl, refl)
 
-pub header-parts : (plan : Plan) (x s a d k l : ℕ) (w : Largest) → x ∷ [] ≡ kind (kindOf plan) → w ≡ largest plan → s ≡ slots plan
+pub header-parts : (plan : Plan) (x s a d : ℕ) (k l : ℤ) (w : Largest) → x ∷ [] ≡ kind (kindOf plan) → w ≡ largest plan → s ≡ slots plan
     → headerBytes (heading plan a d k l) ≡ lettersOf (x ∷ []) ++ (decimalsOf (w .p) (w .q) s a d ++ scalarsOf k l)
 unfolding headerBytes
 header-parts plan x s a d k l w e f g =
@@ -98,12 +99,12 @@ sheet-bytes h ts st =
     ∙ ap (λ (s : List ℕ). spell (map table ts) ++ s) (spell-append (stepLines st) (end ∷ []) ∙ ap (λ (s : List ℕ). spell (stepLines st) ++ s) end-bytes))
 
 -- the parts of a sheet with the counts a and d, from the rows p and q
-abbrev pub partsOf : Plan → ℕ → ℕ → ℕ → ℕ → List ℕ → List ℕ → ℕ → List ℕ
+abbrev pub partsOf : Plan → ℕ → ℕ → ℤ → ℤ → List ℕ → List ℕ → ℕ → List ℕ
 partsOf plan a d k l p q places =
     headerBytes (heading plan a d k l)
     ++ (spell (map table (tables plan)) ++ (spell (stepLines (stepsDown plan (columnsDown p q places))) ++ (69 ∷ lineFeed ∷ [])))
 
-module _ {plan : Plan} {k l : ℕ} {p q : List ℕ} {places counted : ℕ} {out : List ℕ} (g : Ready plan k l p q places counted out) where
+module _ {plan : Plan} {k l : ℤ} {p q : List ℕ} {places counted : ℕ} {out : List ℕ} (g : Ready plan k l p q places counted out) where
   all-below : columnsDown p q places ≡ reverse (digits plan k l)
   all-below = ap (columnsDown p q) (g .long) ∙ columns-below p q (digits plan k l) (g .held)
 
@@ -116,8 +117,7 @@ module _ {plan : Plan} {k l : ℕ} {p q : List ℕ} {places counted : ℕ} {out 
 
   -- the table's additions and those of the digits are the sheet's
   cost : tableAdditions plan + (counted - 1) ≡ writtenAdditions plan k l
-  unfolding Bounded
-  cost = ap (λ (n : ℕ). tableAdditions plan + (n - 1)) (g .heavy) ∙ sym (written-cost plan k l (g .valid) (g .k-bounded) (g .l-bounded))
+  cost = ap (λ (n : ℕ). tableAdditions plan + (n - 1)) (g .heavy) ∙ sym (written-cost plan k l (g .valid))
 
   -- so the plan counts few
   pub few-counted : tableAdditions plan + (counted - 1) ≤ 1088

@@ -7,11 +7,12 @@ use mathlib.Core.Bool.{Bool, _&&_, cond}
 use mathlib.Core.List.{List, [], _∷_, _++_}
 use Prim.Native.Nat.{ℕ}
 use lib.Dec.{leb}
+use lib.IntN.{ℤ}
 use lib.ListN.{length, take, drop}
 use Rattle.digits.specs.Limits.{Limits, card}
 use Rattle.digits.specs.Missed.{missed}
 use Rattle.digits.specs.Row.{isWindow}
-use Rattle.digits.specs.Scalar.{scalar, sized}
+use Rattle.digits.specs.Scalar.{signedScalar, sized}
 use Rattle.sheet.specs.declared.Plan.{Plan}
 use Rattle.sheet.specs.declared.Plan.the-variants.{J, I}
 use Rattle.sheet.specs.Answer.{Accepted, sheetSlots, sheetAdditions}
@@ -48,9 +49,9 @@ additions (Written n a) = a
 abbrev pub roomy : Limits → ℕ → Bool
 roomy limits room = leb (limits .sheet) room
 
--- the answer of a call that has written the sheet of a plan
-abbrev pub wrote : Plan → List ℕ → List ℕ → Sheet
-wrote p k l = Written (length (written p (scalar k) (scalar l))) (writtenAdditions p (scalar k) (scalar l))
+-- the answer of a call that has written the sheet of a plan for k and l
+abbrev pub wrote : Plan → ℤ → ℤ → Sheet
+wrote p k l = Written (length (written p k l)) (writtenAdditions p k l)
 
 -- the buffer after a call: the sheet, and behind it what was lent; as lent where a question was missed
 abbrev pub left : Sheet → List ℕ → List ℕ → List ℕ
@@ -61,13 +62,13 @@ left BadLimit s buffer = buffer
 left (Written n a) s buffer = s ++ drop (length s) buffer
 
 -- the sheet s of a plan is accepted for k and l, and a are its additions
-pub record Promised (p : Plan) (k l a : ℕ) (s : List ℕ) : Type 0 where
+pub record Promised (p : Plan) (k l : ℤ) (a : ℕ) (s : List ℕ) : Type 0 where
   pub accepted : Accepted card s k l
   pub additions-are : sheetAdditions card s ≡ a
   pub slots-are : sheetSlots card s ≡ slots p
 
 -- where n bytes were written, they are such a sheet
-abbrev pub SheetPromised : Plan → ℕ → ℕ → Sheet → List ℕ → Type 0
+abbrev pub SheetPromised : Plan → ℤ → ℤ → Sheet → List ℕ → Type 0
 SheetPromised p k l BadScalar buffer = Unit {0}
 SheetPromised p k l BadWindow buffer = Unit {0}
 SheetPromised p k l NoRoom buffer = Unit {0}
@@ -81,11 +82,13 @@ abbrev pub jQuestion : Limits → List ℕ → List ℕ → ℕ → ℕ
 jQuestion limits k l room = missed ((1, sized limits k) ∷ (1, sized limits l) ∷ (3, roomy limits room) ∷ [])
 
 -- the answer: the first question missed, or the sheet
-unfoldable pub jAnswer : Limits → List ℕ → List ℕ → ℕ → Sheet
-jAnswer limits k l room = cond (sized limits k && sized limits l) (cond (roomy limits room) (wrote J k l) NoRoom) BadScalar
+unfoldable pub jAnswer : Limits → List ℕ → ℕ → List ℕ → ℕ → ℕ → Sheet
+jAnswer limits k k-sign l l-sign room =
+    cond (sized limits k && sized limits l) (cond (roomy limits room) (wrote J (signedScalar k k-sign) (signedScalar l l-sign)) NoRoom) BadScalar
 
-unfoldable pub jBuffer : Limits → List ℕ → List ℕ → List ℕ → List ℕ
-jBuffer limits k l buffer = left (jAnswer limits k l (length buffer)) (written J (scalar k) (scalar l)) buffer
+unfoldable pub jBuffer : Limits → List ℕ → ℕ → List ℕ → ℕ → List ℕ → List ℕ
+jBuffer limits k k-sign l l-sign buffer =
+    left (jAnswer limits k k-sign l l-sign (length buffer)) (written J (signedScalar k k-sign) (signedScalar l l-sign)) buffer
 
 -- ── plan I ──────────────────────────────────────────────────────────────────────────────────
 
@@ -95,12 +98,12 @@ iQuestion limits k l m1 m2 room =
     missed ((1, sized limits k) ∷ (1, sized limits l) ∷ (2, isWindow m1) ∷ (2, isWindow m2) ∷ (3, roomy limits room) ∷ [])
 
 -- the answer: the first question missed, or the sheet
-unfoldable pub iAnswer : Limits → List ℕ → List ℕ → ℕ → ℕ → ℕ → Sheet
-iAnswer limits k l m1 m2 room =
+unfoldable pub iAnswer : Limits → List ℕ → ℕ → List ℕ → ℕ → ℕ → ℕ → ℕ → Sheet
+iAnswer limits k k-sign l l-sign m1 m2 room =
     cond (sized limits k && sized limits l)
-    (cond (isWindow m1 && isWindow m2) (cond (roomy limits room) (wrote (I m1 m2) k l) NoRoom) BadWindow)
+    (cond (isWindow m1 && isWindow m2) (cond (roomy limits room) (wrote (I m1 m2) (signedScalar k k-sign) (signedScalar l l-sign)) NoRoom) BadWindow)
     BadScalar
 
-unfoldable pub iBuffer : Limits → List ℕ → List ℕ → ℕ → ℕ → List ℕ → List ℕ
-iBuffer limits k l m1 m2 buffer =
-    left (iAnswer limits k l m1 m2 (length buffer)) (written (I m1 m2) (scalar k) (scalar l)) buffer
+unfoldable pub iBuffer : Limits → List ℕ → ℕ → List ℕ → ℕ → ℕ → ℕ → List ℕ → List ℕ
+iBuffer limits k k-sign l l-sign m1 m2 buffer =
+    left (iAnswer limits k k-sign l l-sign m1 m2 (length buffer)) (written (I m1 m2) (signedScalar k k-sign) (signedScalar l l-sign)) buffer

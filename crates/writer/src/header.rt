@@ -1,6 +1,6 @@
 ghost use mathlib.Core.Path.{_≡_};
 ghost use mathlib.Core.List.{_∷_, []};
-ghost use Rattle.digits.specs.Scalar;
+ghost use Rattle.digits.specs.Scalar.{signedScalar};
 ghost use Rattle.sheet.specs.Spelling;
 ghost use Rattle.written.specs.Written.{kindOf, heading};
 ghost use Rattle.writer.specs.Body.Parts.{Put, Room, field, lettersOf, decimalsOf, scalarsOf, headerBytes};
@@ -57,13 +57,13 @@ fn put_decimals(
 }
 
 // The two scalars of a header, and the end of its line.
-fn put_scalars(out: &mut [u8], at: usize, k: &[u8], l: &[u8]) -> usize
-    requires { ⌜ Room (now out) at (scalarsOf (Scalar.scalar (now k)) (Scalar.scalar (now l))) ⌝ }
-    ensures { λ r. ⌜ Put (now (out .entry)) (now (out .exit)) at r (scalarsOf (Scalar.scalar (now (k .entry))) (Scalar.scalar (now (l .entry)))) ⌝ }
+fn put_scalars(out: &mut [u8], at: usize, k: &[u8], k_sign: u32, l: &[u8], l_sign: u32) -> usize
+    requires { ⌜ Room (now out) at (scalarsOf (signedScalar (now k) «k_sign») (signedScalar (now l) «l_sign»)) ⌝ }
+    ensures { λ r. ⌜ Put (now (out .entry)) (now (out .exit)) at r (scalarsOf (signedScalar (now (k .entry)) «k_sign») (signedScalar (now (l .entry)) «l_sign»)) ⌝ }
 {
-    let a = crate::figures::put_scalar(out, at, k);
+    let a = crate::figures::put_signed(out, at, k, k_sign);
     let b = crate::put::put_byte(out, a, b',');
-    let c = crate::figures::put_scalar(out, b, l);
+    let c = crate::figures::put_signed(out, b, l, l_sign);
     crate::put::put_byte(out, c, b'\n')
 }
 
@@ -75,14 +75,16 @@ pub fn put_header(
     additions: u32,
     doublings: u32,
     k: &[u8],
+    k_sign: u32,
     l: &[u8],
+    l_sign: u32,
 ) -> usize
-    requires { ⌜ Room (now out) at (headerBytes (heading plan additions doublings (Scalar.scalar (now k)) (Scalar.scalar (now l)))) ⌝ }
-    ensures { λ r. ⌜ Put (now (out .entry)) (now (out .exit)) at r (headerBytes (heading plan additions doublings (Scalar.scalar (now (k .entry))) (Scalar.scalar (now (l .entry))))) ⌝ }
+    requires { ⌜ Room (now out) at (headerBytes (heading plan additions doublings (signedScalar (now k) «k_sign») (signedScalar (now l) «l_sign»))) ⌝ }
+    ensures { λ r. ⌜ Put (now (out .entry)) (now (out .exit)) at r (headerBytes (heading plan additions doublings (signedScalar (now (k .entry)) «k_sign») (signedScalar (now (l .entry)) «l_sign»))) ⌝ }
 {
     let windows = plan.limits();
     let slots = plan.slots();
     let a = put_letters(out, at, letter_of(plan));
     let b = put_decimals(out, a, windows.p, windows.q, slots, additions, doublings);
-    put_scalars(out, b, k, l)
+    put_scalars(out, b, k, k_sign, l, l_sign)
 }

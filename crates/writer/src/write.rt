@@ -4,7 +4,7 @@ ghost use mathlib.Core.List.{_++_};
 ghost use Prim.Native.Nat.{ℕ, suc, _-_, _≤_};
 ghost use lib.Dec.{T};
 ghost use lib.ListN.{length, drop};
-ghost use Rattle.digits.specs.Scalar.{scalar};
+ghost use Rattle.digits.specs.Scalar.{signedScalar};
 ghost use Rattle.digits.specs.Two.{blank};
 ghost use Rattle.sheet.specs.Sound.{stepLines};
 ghost use Rattle.sheet.specs.Spelling.{spell};
@@ -51,19 +51,21 @@ pub fn write_sheet(
     out: &mut [u8],
     plan: Plan,
     k: &[u8],
+    k_sign: u32,
     l: &[u8],
+    l_sign: u32,
     p: &[u8; PLACES],
     q: &[u8; PLACES],
     places: usize,
     weight: usize,
 ) -> Sheet
-    requires { ⌜ Ready plan (scalar (now k)) (scalar (now l)) (now p) (now q) places weight (now out) ⌝ }
-    ensures { λ r. ⌜ r ≡ Sheet.Written (length (written plan (scalar (now (k .entry))) (scalar (now (l .entry))))) (writtenAdditions plan (scalar (now (k .entry))) (scalar (now (l .entry)))) ⌝ }
-    ensures { λ _. ⌜ now (out .exit) ≡ written plan (scalar (now (k .entry))) (scalar (now (l .entry))) ++ drop (length (written plan (scalar (now (k .entry))) (scalar (now (l .entry))))) (now (out .entry)) ⌝ }
+    requires { ⌜ Ready plan (signedScalar (now k) «k_sign») (signedScalar (now l) «l_sign») (now p) (now q) places weight (now out) ⌝ }
+    ensures { λ r. ⌜ r ≡ Sheet.Written (length (written plan (signedScalar (now (k .entry)) «k_sign») (signedScalar (now (l .entry)) «l_sign»))) (writtenAdditions plan (signedScalar (now (k .entry)) «k_sign») (signedScalar (now (l .entry)) «l_sign»)) ⌝ }
+    ensures { λ _. ⌜ now (out .exit) ≡ written plan (signedScalar (now (k .entry)) «k_sign») (signedScalar (now (l .entry)) «l_sign») ++ drop (length (written plan (signedScalar (now (k .entry)) «k_sign») (signedScalar (now (l .entry)) «l_sign»))) (now (out .entry)) ⌝ }
 {
     let additions = plan.table_additions() + less_one(weight as u32);
     let doublings = plan.table_doublings() + less_one(places as u32);
-    let a = crate::header::put_header(out, 0, plan, additions, doublings, k, l);
+    let a = crate::header::put_header(out, 0, plan, additions, doublings, k, k_sign, l, l_sign);
     let b = crate::tables::put_tables(out, a, plan);
     let c = put_places(out, b, plan, p, q, places);
     let d = crate::steps::put_letter(out, c, b'E');

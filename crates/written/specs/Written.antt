@@ -1,4 +1,4 @@
--- The sheet that is written for two scalars and a plan: its digits are those of the row or joint form, from the highest
+-- The sheet that is written for two signed scalars and a plan: its digits are those of the row or joint form, from the highest
 -- place down to place 0.
 pub mod Accepted
 pub mod Columns
@@ -7,7 +7,7 @@ pub mod Lengths
 use mathlib.Core.Bool.{cond}
 use mathlib.Core.List.{List, [], _∷_, _++_, reverse}
 use Prim.Native.Nat.{ℕ}
-use lib.IntN.{pos}
+use lib.IntN.{ℤ, pos}
 use Rattle.digits.specs.Two.{Column, blank, paired}
 use Rattle.forms.specs.Joint.{joint}
 use Rattle.forms.specs.Row.{row}
@@ -21,9 +21,9 @@ use Rattle.sheet.specs.Sound.{Moves, stop, doubled, added, Steps, nothing, load
 use Rattle.sheet.specs.Spelling.{spell}
 
 -- the digits that a plan takes for k and l
-unfoldable pub digits : Plan → ℕ → ℕ → List Column
-digits J k l = joint (pos k) (pos l)
-digits (I m1 m2) k l = paired (row m1 (pos k)) (row m2 (pos l))
+unfoldable pub digits : Plan → ℤ → ℤ → List Column
+digits J k l = joint k l
+digits (I m1 m2) k l = paired (row m1 k) (row m2 l)
 
 -- t, unless it is 0P + 0Q
 abbrev pub unlessZero : Point → List Point
@@ -72,7 +72,7 @@ second J = 1
 second (I m1 m2) = m2
 
 -- the header, with the counts of additions and doublings a and d
-abbrev pub heading : Plan → ℕ → ℕ → ℕ → ℕ → Header
+abbrev pub heading : Plan → ℕ → ℕ → ℤ → ℤ → Header
 heading p a d k l =
     record {
       kind = kindOf p;
@@ -86,21 +86,21 @@ heading p a d k l =
     }
 
 -- all lines, with the counts a and d in the header
-abbrev pub linesWith : Plan → ℕ → ℕ → ℕ → ℕ → List Line
+abbrev pub linesWith : Plan → ℕ → ℕ → ℤ → ℤ → List Line
 linesWith p a d k l = sheetLines (heading p a d k l) (tables p) (stepsOf p (digits p k l))
 
 -- the written lines: the counts are those of the lines, of which the header is none
-unfoldable pub writtenLines : Plan → ℕ → ℕ → List Line
+unfoldable pub writtenLines : Plan → ℤ → ℤ → List Line
 writtenLines p k l = linesWith p (additions (linesWith p 0 0 k l)) (doublings (linesWith p 0 0 k l)) k l
 
 -- the additions of the written sheet
-unfoldable pub writtenAdditions : Plan → ℕ → ℕ → ℕ
+unfoldable pub writtenAdditions : Plan → ℤ → ℤ → ℕ
 writtenAdditions p k l = additions (writtenLines p k l)
 
 -- its doublings: the D lines, and the T lines of 2P and 2Q
-unfoldable pub writtenDoublings : Plan → ℕ → ℕ → ℕ
+unfoldable pub writtenDoublings : Plan → ℤ → ℤ → ℕ
 writtenDoublings p k l = doublings (writtenLines p k l)
 
 -- the written sheet
-unfoldable pub written : Plan → ℕ → ℕ → List ℕ
+unfoldable pub written : Plan → ℤ → ℤ → List ℕ
 written p k l = spell (writtenLines p k l)

@@ -92,6 +92,7 @@ fn leave_bytes(bytes: &[u8], buffer: &mut [u8]) {
 #[cfg(test)]
 mod tests {
     use super::*;
+    use crate::big::Big;
     use crate::calls::parse;
     use crate::plan::Plan;
     use crate::reader::LONGEST_SHEET;
@@ -105,31 +106,47 @@ mod tests {
 
     #[test]
     fn codes_of_rows_and_joint_forms() {
-        assert_eq!(code("row 00 1 9"), 0);
-        assert_eq!(code("row 07 1 9"), 0x0002_0004);
-        assert_eq!(code("row 07 5 9"), 0x0002_0004);
-        assert_eq!(code("row 35 3 9"), 0x0003_0007);
-        assert_eq!(code("joint 00 00 9 9"), 0);
-        assert_eq!(code("joint 0d 0a 9 9"), 0x0004_0005);
-        assert_eq!(code("joint 07 02 9 9"), 0x0003_0004);
-        assert_eq!(code("joint-codes 0d 0a 9 9 9 9"), 0x0004_0005);
+        assert_eq!(code("row 00 0 1 9"), 0);
+        assert_eq!(code("row 07 0 1 9"), 0x0002_0004);
+        assert_eq!(code("row 07 0 5 9"), 0x0002_0004);
+        assert_eq!(code("row 35 0 3 9"), 0x0003_0007);
+        assert_eq!(code("joint 00 0 00 0 9 9"), 0);
+        assert_eq!(code("joint 0d 0 0a 0 9 9"), 0x0004_0005);
+        assert_eq!(code("joint 07 0 02 0 9 9"), 0x0003_0004);
+        assert_eq!(code("joint-codes 0d 0 0a 0 9 9 9 9"), 0x0004_0005);
     }
 
     #[test]
     fn codes_of_sheets() {
-        assert_eq!(code("cheapest 07 02 0 16384"), 2 << 16 | 45);
-        assert_eq!(code("cheapest 03 00 1 16384"), 1 << 16 | 37);
-        assert_eq!(code("plan-i 00 00 1 1 16384"), 20);
-        assert_eq!(code("plan-i 09 00 5 1 16384"), 3 << 16 | 56);
-        assert_eq!(code("plan-j 0d 0a 16384"), 5 << 16 | 67);
+        assert_eq!(code("cheapest 07 0 02 0 0 16384"), 2 << 16 | 45);
+        assert_eq!(code("cheapest 03 0 00 0 1 16384"), 1 << 16 | 37);
+        assert_eq!(code("plan-i 00 0 00 0 1 1 16384"), 20);
+        assert_eq!(code("plan-i 09 0 00 0 5 1 16384"), 3 << 16 | 56);
+        assert_eq!(code("plan-j 0d 0 0a 0 16384"), 5 << 16 | 67);
+    }
+
+    /// A minus changes no number of an answer but the length of a sheet.
+    #[test]
+    fn codes_of_signed_scalars() {
+        assert_eq!(code("row 00 1 1 9"), 0);
+        assert_eq!(code("row 35 256 3 9"), 0x0003_0007);
+        assert_eq!(code("joint 0d 1 0a 0 9 9"), 0x0004_0005);
+        assert_eq!(code("joint-codes 0d 2 0a 4294967295 9 9 9 9"), 0x0004_0005);
+        // The sheet for 7 and 2 has 45 bytes; with a minus both digits for P change their sign, and
+        // the one for Q.
+        assert_eq!(code("cheapest 07 1 02 0 0 16384"), 2 << 16 | 46);
+        assert_eq!(code("cheapest 07 0 02 1 0 16384"), 2 << 16 | 47);
+        assert_eq!(code("cheapest 07 1 02 1 0 16384"), 2 << 16 | 48);
+        assert_eq!(code("plan-i 00 1 00 1 1 1 16384"), 20);
+        assert_eq!(code("row - 1 4 0"), 1 << 32);
     }
 
     #[test]
     fn codes_of_refusals_and_of_the_reader() {
-        assert_eq!(code("row - 4 0"), 1 << 32);
-        assert_eq!(code("row 07 4 9"), 2 << 32);
-        assert_eq!(code("joint 0d 0a 8 9"), 3 << 32);
-        assert_eq!(code("cheapest 07 02 32 16384"), 4 << 32);
+        assert_eq!(code("row - 0 4 0"), 1 << 32);
+        assert_eq!(code("row 07 0 4 9"), 2 << 32);
+        assert_eq!(code("joint 0d 0 0a 0 8 9"), 3 << 32);
+        assert_eq!(code("cheapest 07 0 02 0 32 16384"), 4 << 32);
         assert_eq!(code("read -"), 6 << 32 | 1);
         assert_eq!(Answer::refused(9, 531).code(), 9 << 32 | 531);
         assert_eq!(Answer::refused(11, 0x1_2345).code(), 0x0000_000b_0001_2345);
@@ -140,17 +157,19 @@ mod tests {
     /// sheets of every plan, and the longest sheet with the most additions that a header can state.
     #[test]
     fn every_part_has_room_for_the_largest_answers() {
-        let dense = scalars::value(&scalars::dense());
+        let dense = Big::from_bytes(&scalars::dense());
         assert_eq!(Answer::Row(row::recode(dense, 1)).code(), 265 << 16 | 529);
         let (k, l) = scalars::dense_pair();
-        let columns = joint::recode(scalars::value(&k), scalars::value(&l));
+        let columns = joint::recode(Big::from_bytes(&k), Big::from_bytes(&l));
         let (k_row, l_row) = joint::rows(&columns);
         assert_eq!(Answer::Columns(k_row, l_row).code(), 352 << 16 | 527);
         for plan in Plan::all() {
-            let sheet = Sheet::of_plan(plan, dense, dense);
-            let (length, additions) = (sheet.to_bytes().len(), sheet.additions());
-            assert!(length <= LONGEST_SHEET && additions <= 529);
-            assert_eq!(Answer::sheet(&sheet).code(), (additions << 16 | length) as u64);
+            for scalar in [dense, dense.negated()] {
+                let sheet = Sheet::of_plan(plan, scalar, scalar);
+                let (length, additions) = (sheet.to_bytes().len(), sheet.additions());
+                assert!(length <= LONGEST_SHEET && additions <= 529);
+                assert_eq!(Answer::sheet(&sheet).code(), (additions << 16 | length) as u64);
+            }
         }
         let longest = Answer::Sheet { bytes: vec![b'D'; LONGEST_SHEET], additions: 9_999 };
         assert_eq!(longest.code(), 9_999 << 16 | 16_384);

@@ -1,10 +1,12 @@
 //! Signed whole numbers of 640 bits in two's complement: room for every scalar (528 bits), every
 //! remainder of a recoding, and every accumulator that 528 doublings can reach.
 
+use std::fmt;
+
 const WORDS: usize = 10;
 
 /// A number; the least significant word is first.
-#[derive(Clone, Copy, PartialEq, Eq, Debug)]
+#[derive(Clone, Copy, PartialEq, Eq)]
 pub struct Big([u64; WORDS]);
 
 impl Big {
@@ -29,15 +31,34 @@ impl Big {
         Big(words)
     }
 
-    /// Lower-case hexadecimal figures of a number not below zero, with no leading zero.
+    /// Lower-case hexadecimal figures with no leading zero, behind a minus if the number is below
+    /// zero.
     pub fn to_hex(self) -> String {
-        let all: String = self.0.iter().rev().map(|word| format!("{word:016x}")).collect();
-        let figures = all.trim_start_matches('0');
-        if figures.is_empty() { "0" } else { figures }.to_string()
+        let all: String = self.size().0.iter().rev().map(|word| format!("{word:016x}")).collect();
+        let figures = match all.trim_start_matches('0') {
+            "" => "0",
+            figures => figures,
+        };
+        let minus = if self.is_negative() { "-" } else { "" };
+        format!("{minus}{figures}")
     }
 
     pub fn is_zero(self) -> bool {
         self == Big::ZERO
+    }
+
+    pub fn is_negative(self) -> bool {
+        self.0[WORDS - 1] >> 63 == 1
+    }
+
+    /// The number without its sign.
+    #[must_use]
+    pub fn size(self) -> Big {
+        if self.is_negative() {
+            self.negated()
+        } else {
+            self
+        }
     }
 
     pub fn is_odd(self) -> bool {
@@ -49,10 +70,11 @@ impl Big {
         (self.0[0] & ((1 << count) - 1)) as i64
     }
 
-    /// The place of the top one bit plus 1 of a number not below zero, and 0 for zero.
+    /// The place of the size's top one bit plus 1, and 0 for zero.
     pub fn bit_length(self) -> usize {
-        let top = self.0.iter().rposition(|&word| word != 0);
-        top.map_or(0, |i| 64 * i + 64 - self.0[i].leading_zeros() as usize)
+        let Big(words) = self.size();
+        let top = words.iter().rposition(|&word| word != 0);
+        top.map_or(0, |i| 64 * i + 64 - words[i].leading_zeros() as usize)
     }
 
     /// The number itself where it lies within −bound to bound.
@@ -69,9 +91,19 @@ impl Big {
     /// This number and small × 2^(64 × at).
     #[must_use]
     pub fn plus_at(self, small: i64, at: usize) -> Big {
+        self.sum_at(Big::from(small), at)
+    }
+
+    #[must_use]
+    pub fn sum(self, other: Big) -> Big {
+        self.sum_at(other, 0)
+    }
+
+    /// This number and other × 2^(64 × at).
+    fn sum_at(self, other: Big, at: usize) -> Big {
         let mut words = self.0;
         let mut carry = false;
-        for (word, other) in words[at..].iter_mut().zip(Big::from(small).0) {
+        for (word, other) in words[at..].iter_mut().zip(other.0) {
             let (sum, first) = word.overflowing_add(other);
             let (sum, second) = sum.overflowing_add(u64::from(carry));
             *word = sum;
@@ -122,6 +154,13 @@ impl From<i64> for Big {
     }
 }
 
+/// As on a sheet.
+impl fmt::Debug for Big {
+    fn fmt(&self, out: &mut fmt::Formatter) -> fmt::Result {
+        out.write_str(&self.to_hex())
+    }
+}
+
 #[cfg(test)]
 mod tests {
     use super::*;
@@ -133,6 +172,35 @@ mod tests {
         assert_eq!(Big::from_hex(b"123456789abcdef00f"), Big::from_bytes(&bytes));
         assert_eq!(Big::ZERO.to_hex(), "0");
         assert_eq!(Big::from_bytes(&[255; 66]).to_hex(), "f".repeat(132));
+    }
+
+    #[test]
+    fn figures_of_a_negative_number_stand_behind_a_minus() {
+        assert_eq!(Big::from(-1).to_hex(), "-1");
+        assert_eq!(Big::from(-0x10a).to_hex(), "-10a");
+        assert_eq!(Big::ZERO.negated().to_hex(), "0");
+        let longest = Big::from_bytes(&[255; 66]).negated();
+        assert_eq!(longest.to_hex(), format!("-{}", "f".repeat(132)));
+    }
+
+    #[test]
+    fn a_number_and_its_negative_have_one_size() {
+        let top = Big::from_bytes(&[255; 66]);
+        for number in [Big::ZERO, Big::from(1), Big::from(64), top, top.plus(1)] {
+            assert_eq!(number.size(), number);
+            assert_eq!(number.negated().size(), number);
+            assert_eq!(number.negated().bit_length(), number.bit_length());
+            assert_eq!(number.negated().is_negative(), !number.is_zero());
+            assert!(!number.is_negative());
+        }
+    }
+
+    #[test]
+    fn sums() {
+        let top = Big::from_bytes(&[255; 66]);
+        assert_eq!(top.sum(top), top.doubled());
+        assert_eq!(top.sum(top.negated()), Big::ZERO);
+        assert_eq!(Big::from(3).sum(Big::from(-5)), Big::from(-2));
     }
 
     #[test]

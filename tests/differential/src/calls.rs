@@ -2,10 +2,11 @@
 //! back.
 
 use crate::answer::Answer;
+use crate::big::Big;
 use crate::cheapest::Forms;
 use crate::plan::{Plan, MOST_SLOTS};
 use crate::reader::{self, LONGEST_SHEET};
-use crate::scalars::{self, MOST_BYTES};
+use crate::scalars::{Scalar, MOST_BYTES};
 use crate::sheet::Sheet;
 use crate::{codes, joint, row};
 use std::fmt;
@@ -14,37 +15,37 @@ use std::fmt;
 #[derive(Clone, PartialEq, Eq, Debug)]
 pub enum Call {
     Row {
-        scalar: Vec<u8>,
+        scalar: Scalar,
         m: u32,
         places: usize,
     },
     Joint {
-        k: Vec<u8>,
-        l: Vec<u8>,
+        k: Scalar,
+        l: Scalar,
         k_places: usize,
         l_places: usize,
     },
     /// The rooms are those of the two digit buffers and then of the two code buffers.
     JointCodes {
-        k: Vec<u8>,
-        l: Vec<u8>,
+        k: Scalar,
+        l: Scalar,
         rooms: [usize; 4],
     },
     PlanJ {
-        k: Vec<u8>,
-        l: Vec<u8>,
+        k: Scalar,
+        l: Scalar,
         room: usize,
     },
     PlanI {
-        k: Vec<u8>,
-        l: Vec<u8>,
+        k: Scalar,
+        l: Scalar,
         m1: u32,
         m2: u32,
         room: usize,
     },
     Cheapest {
-        k: Vec<u8>,
-        l: Vec<u8>,
+        k: Scalar,
+        l: Scalar,
         limit: u32,
         room: usize,
     },
@@ -60,16 +61,14 @@ impl Call {
             return Answer::refused(number, 0);
         }
         match self {
-            Call::Row { scalar, m, .. } => {
-                Answer::Row(row::recode(scalars::value(scalar), *m as u8))
-            }
+            Call::Row { scalar, m, .. } => Answer::Row(row::recode(scalar.value(), *m as u8)),
             Call::Joint { k, l, .. } => {
-                let columns = joint::recode(scalars::value(k), scalars::value(l));
+                let columns = joint::recode(k.value(), l.value());
                 let (k_row, l_row) = joint::rows(&columns);
                 Answer::Columns(k_row, l_row)
             }
             Call::JointCodes { k, l, .. } => {
-                let (k, l) = (scalars::value(k), scalars::value(l));
+                let (k, l) = (k.value(), l.value());
                 let columns = joint::recode(k, l);
                 let (k_row, l_row) = joint::rows(&columns);
                 let (k_codes, l_codes) = codes::of_columns(k, l, &columns);
@@ -80,7 +79,7 @@ impl Call {
                 sheet(Plan::Interleaved { m1: *m1 as u8, m2: *m2 as u8 }, k, l)
             }
             Call::Cheapest { k, l, limit, .. } => {
-                let forms = Forms::of(scalars::value(k), scalars::value(l));
+                let forms = Forms::of(k.value(), l.value());
                 Answer::sheet(&forms.cheapest_sheet(*limit as usize))
             }
             Call::Read { sheet } => match reader::read(sheet) {
@@ -94,17 +93,21 @@ impl Call {
     fn first_question_missed(&self) -> Option<u32> {
         let questions = match self {
             Call::Row { scalar, m, places } => {
-                vec![(has_length(scalar), 1), (is_window(*m), 2), (*places > 8 * scalar.len(), 3)]
+                vec![
+                    (has_length(scalar), 1),
+                    (is_window(*m), 2),
+                    (*places > 8 * scalar.bytes.len(), 3),
+                ]
             }
             Call::Joint { k, l, k_places, l_places } => {
-                let bytes = k.len().max(l.len());
+                let bytes = k.bytes.len().max(l.bytes.len());
                 vec![
                     (has_length(k) && has_length(l), 1),
                     (*k_places > 8 * bytes && *l_places > 8 * bytes, 3),
                 ]
             }
             Call::JointCodes { k, l, rooms } => {
-                let bytes = k.len().max(l.len());
+                let bytes = k.bytes.len().max(l.bytes.len());
                 vec![
                     (has_length(k) && has_length(l), 1),
                     (rooms.iter().all(|&room| room > 8 * bytes), 3),
@@ -131,13 +134,23 @@ impl Call {
     /// The bytes that the call only reads.
     pub fn inputs(&self) -> Vec<&[u8]> {
         match self {
-            Call::Row { scalar, .. } => vec![scalar],
+            Call::Row { scalar, .. } => vec![&scalar.bytes],
             Call::Joint { k, l, .. }
             | Call::JointCodes { k, l, .. }
             | Call::PlanJ { k, l, .. }
             | Call::PlanI { k, l, .. }
-            | Call::Cheapest { k, l, .. } => vec![k, l],
+            | Call::Cheapest { k, l, .. } => vec![&k.bytes, &l.bytes],
             Call::Read { sheet } => vec![sheet],
+        }
+    }
+
+    /// The pair that a sheet is ordered for.
+    pub fn ordered(&self) -> Option<(Big, Big)> {
+        match self {
+            Call::PlanJ { k, l, .. } | Call::PlanI { k, l, .. } | Call::Cheapest { k, l, .. } => {
+                Some((k.value(), l.value()))
+            }
+            _ => None,
         }
     }
 
@@ -155,12 +168,12 @@ impl Call {
     }
 }
 
-fn sheet(plan: Plan, k: &[u8], l: &[u8]) -> Answer {
-    Answer::sheet(&Sheet::of_plan(plan, scalars::value(k), scalars::value(l)))
+fn sheet(plan: Plan, k: &Scalar, l: &Scalar) -> Answer {
+    Answer::sheet(&Sheet::of_plan(plan, k.value(), l.value()))
 }
 
-fn has_length(scalar: &[u8]) -> bool {
-    (1..=MOST_BYTES).contains(&scalar.len())
+fn has_length(scalar: &Scalar) -> bool {
+    (1..=MOST_BYTES).contains(&scalar.bytes.len())
 }
 
 fn is_window(m: u32) -> bool {
@@ -168,23 +181,24 @@ fn is_window(m: u32) -> bool {
 }
 
 impl fmt::Display for Call {
-    /// The words that `parse` reads back.
+    /// The words that `parse` reads back; of a scalar its bytes and its sign.
     fn fmt(&self, out: &mut fmt::Formatter) -> fmt::Result {
+        let words = |scalar: &Scalar| format!("{} {}", hex(&scalar.bytes), scalar.sign);
         match self {
-            Call::Row { scalar, m, places } => write!(out, "row {} {m} {places}", hex(scalar)),
+            Call::Row { scalar, m, places } => write!(out, "row {} {m} {places}", words(scalar)),
             Call::Joint { k, l, k_places, l_places } => {
-                write!(out, "joint {} {} {k_places} {l_places}", hex(k), hex(l))
+                write!(out, "joint {} {} {k_places} {l_places}", words(k), words(l))
             }
             Call::JointCodes { k, l, rooms: [k_digits, l_digits, k_codes, l_codes] } => {
-                let (k, l) = (hex(k), hex(l));
+                let (k, l) = (words(k), words(l));
                 write!(out, "joint-codes {k} {l} {k_digits} {l_digits} {k_codes} {l_codes}")
             }
-            Call::PlanJ { k, l, room } => write!(out, "plan-j {} {} {room}", hex(k), hex(l)),
+            Call::PlanJ { k, l, room } => write!(out, "plan-j {} {} {room}", words(k), words(l)),
             Call::PlanI { k, l, m1, m2, room } => {
-                write!(out, "plan-i {} {} {m1} {m2} {room}", hex(k), hex(l))
+                write!(out, "plan-i {} {} {m1} {m2} {room}", words(k), words(l))
             }
             Call::Cheapest { k, l, limit, room } => {
-                write!(out, "cheapest {} {} {limit} {room}", hex(k), hex(l))
+                write!(out, "cheapest {} {} {limit} {room}", words(k), words(l))
             }
             Call::Read { sheet } => write!(out, "read {}", hex(sheet)),
         }
@@ -194,18 +208,20 @@ impl fmt::Display for Call {
 /// The call that these words print.
 pub fn parse(words: &[&str]) -> Option<Call> {
     Some(match *words {
-        ["row", scalar, m, places] => {
-            Call::Row { scalar: unhex(scalar)?, m: m.parse().ok()?, places: places.parse().ok()? }
-        }
-        ["joint", k, l, k_places, l_places] => Call::Joint {
-            k: unhex(k)?,
-            l: unhex(l)?,
+        ["row", scalar, sign, m, places] => Call::Row {
+            scalar: parse_scalar(scalar, sign)?,
+            m: m.parse().ok()?,
+            places: places.parse().ok()?,
+        },
+        ["joint", k, ks, l, ls, k_places, l_places] => Call::Joint {
+            k: parse_scalar(k, ks)?,
+            l: parse_scalar(l, ls)?,
             k_places: k_places.parse().ok()?,
             l_places: l_places.parse().ok()?,
         },
-        ["joint-codes", k, l, k_digits, l_digits, k_codes, l_codes] => Call::JointCodes {
-            k: unhex(k)?,
-            l: unhex(l)?,
+        ["joint-codes", k, ks, l, ls, k_digits, l_digits, k_codes, l_codes] => Call::JointCodes {
+            k: parse_scalar(k, ks)?,
+            l: parse_scalar(l, ls)?,
             rooms: [
                 k_digits.parse().ok()?,
                 l_digits.parse().ok()?,
@@ -213,25 +229,31 @@ pub fn parse(words: &[&str]) -> Option<Call> {
                 l_codes.parse().ok()?,
             ],
         },
-        ["plan-j", k, l, room] => {
-            Call::PlanJ { k: unhex(k)?, l: unhex(l)?, room: room.parse().ok()? }
-        }
-        ["plan-i", k, l, m1, m2, room] => Call::PlanI {
-            k: unhex(k)?,
-            l: unhex(l)?,
+        ["plan-j", k, ks, l, ls, room] => Call::PlanJ {
+            k: parse_scalar(k, ks)?,
+            l: parse_scalar(l, ls)?,
+            room: room.parse().ok()?,
+        },
+        ["plan-i", k, ks, l, ls, m1, m2, room] => Call::PlanI {
+            k: parse_scalar(k, ks)?,
+            l: parse_scalar(l, ls)?,
             m1: m1.parse().ok()?,
             m2: m2.parse().ok()?,
             room: room.parse().ok()?,
         },
-        ["cheapest", k, l, limit, room] => Call::Cheapest {
-            k: unhex(k)?,
-            l: unhex(l)?,
+        ["cheapest", k, ks, l, ls, limit, room] => Call::Cheapest {
+            k: parse_scalar(k, ks)?,
+            l: parse_scalar(l, ls)?,
             limit: limit.parse().ok()?,
             room: room.parse().ok()?,
         },
         ["read", sheet] => Call::Read { sheet: unhex(sheet)? },
         _ => return None,
     })
+}
+
+fn parse_scalar(bytes: &str, sign: &str) -> Option<Scalar> {
+    Some(Scalar::new(unhex(bytes)?, sign.parse().ok()?))
 }
 
 /// Two hexadecimal figures for each byte, and `-` for no bytes.
@@ -258,12 +280,12 @@ mod tests {
 
     #[test]
     fn calls_read_back() {
-        let (k, l) = (vec![0, 0xff], Vec::new());
+        let (k, l) = (Scalar::plus([0, 0xff]), Scalar::new([], u32::MAX));
         let calls = [
-            Call::Row { scalar: k.clone(), m: 4, places: 17 },
+            Call::Row { scalar: k.with_sign(256), m: 4, places: 17 },
             Call::Joint { k: k.clone(), l: l.clone(), k_places: 17, l_places: 0 },
             Call::JointCodes { k: k.clone(), l: l.clone(), rooms: [17, 0, 18, 529] },
-            Call::PlanJ { k: k.clone(), l: l.clone(), room: 16_384 },
+            Call::PlanJ { k: k.with_sign(2), l: l.with_sign(0), room: 16_384 },
             Call::PlanI { k: k.clone(), l: l.clone(), m1: 5, m2: u32::MAX, room: 16_383 },
             Call::Cheapest { k, l, limit: 32, room: 0 },
             Call::Read { sheet: b"E\n".to_vec() },

@@ -44,6 +44,7 @@ fn bit(number: &[u32], place: usize) -> i8 {
 #[cfg(test)]
 mod tests {
     use super::*;
+    use crate::big::Big;
     use crate::random::Random;
     use crate::{row, scalars};
 
@@ -51,9 +52,9 @@ mod tests {
     fn right_on_scalars_without_a_word_of_ones() {
         let random = &mut Random::new(13);
         for _ in 0..2000 {
-            let scalar = scalars::random(random);
+            let scalar = scalars::random(random).bytes;
             if !words(&scalar).contains(&u32::MAX) {
-                let mut digits = row::recode(scalars::value(&scalar), 1);
+                let mut digits = row::recode(Big::from_bytes(&scalar), 1);
                 digits.resize(recode(&scalar).len(), 0);
                 assert_eq!(recode(&scalar), digits);
             }
@@ -64,7 +65,7 @@ mod tests {
     fn wrong_where_a_carry_comes_to_a_word_of_ones() {
         let is_right = |scalar: u128| {
             let scalar = scalar.to_be_bytes();
-            row::value(&recode(&scalar)) == scalars::value(&scalar)
+            row::value(&recode(&scalar)) == Big::from_bytes(&scalar)
         };
         assert!(is_right(0xffff_ffff));
         assert!(is_right(0xffff_ffff_0000_0000));

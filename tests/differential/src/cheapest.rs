@@ -84,15 +84,18 @@ mod tests {
     use super::*;
     use crate::plan::MOST_SLOTS;
     use crate::random::Random;
-    use crate::scalars;
+    use crate::scalars::{self, Scalar};
 
     #[test]
     fn additions_and_doublings_are_those_counted_on_the_sheet() {
         let mut random = Random::new(6);
         let mut pairs: Vec<_> = (0..10).map(|_| scalars::random_pair(&mut random)).collect();
-        pairs.extend([(vec![0], vec![0]), (vec![0], vec![3]), (vec![255; 66], vec![255; 66])]);
+        let (zero, all_ones) = (Scalar::plus([0]), Scalar::plus([255; 66]));
+        pairs.push((zero.clone(), zero.clone()));
+        pairs.push((zero, Scalar::minus([3])));
+        pairs.push((all_ones.clone(), all_ones.with_sign(1)));
         for (k, l) in pairs {
-            let (k, l) = (Big::from_bytes(&k), Big::from_bytes(&l));
+            let (k, l) = (k.value(), l.value());
             let forms = Forms::of(k, l);
             for plan in Plan::all() {
                 let sheet = Sheet::of_plan(plan, k, l);
@@ -111,6 +114,26 @@ mod tests {
                     let best = forms.cheapest(limit);
                     assert!(best.slots() <= limit);
                     assert!(!Plan::within(limit).any(|plan| comes_before(&forms, plan, best)));
+                }
+            }
+        }
+    }
+
+    #[test]
+    fn neither_the_counts_nor_the_plan_change_with_the_signs() {
+        let mut random = Random::new(15);
+        let small = (0..16 * 16).map(|pair| (Big::from(pair / 16), Big::from(pair % 16)));
+        let long: Vec<_> = (0..10).map(|_| scalars::random_pair(&mut random)).collect();
+        for (k, l) in small.chain(long.iter().map(|(k, l)| (k.value(), l.value()))) {
+            let forms = Forms::of(k, l);
+            for (k, l) in [(k.negated(), l), (k, l.negated()), (k.negated(), l.negated())] {
+                let signed = Forms::of(k, l);
+                for plan in Plan::all() {
+                    assert_eq!(signed.additions(plan), forms.additions(plan));
+                    assert_eq!(signed.doublings(plan), forms.doublings(plan));
+                }
+                for limit in 0..=MOST_SLOTS as usize {
+                    assert_eq!(signed.cheapest(limit), forms.cheapest(limit));
                 }
             }
         }

@@ -10,13 +10,13 @@ pub fn of_columns(k: Big, l: Big, columns: &[Pair]) -> (Vec<u8>, Vec<u8>) {
 }
 
 /// What is left of k and of l at each place: the number less its digits below, divided by 2^place.
-fn remainders(mut k: Big, mut l: Big, columns: &[Pair]) -> Vec<(Big, Big)> {
-    let mut all = Vec::new();
-    for &(a, b) in columns {
-        all.push((k, l));
-        (k, l) = (k.after(a), l.after(b));
-    }
-    all
+fn remainders(k: Big, l: Big, columns: &[Pair]) -> Vec<(Big, Big)> {
+    let take = |left: &mut (Big, Big), &(a, b): &Pair| {
+        let (k, l) = *left;
+        *left = (k.after(a), l.after(b));
+        Some((k, l))
+    };
+    columns.iter().scan((k, l), take).collect()
 }
 
 /// 0 for an even remainder; 2 where it is 3 or 5 by eight beside one that is 2 by four; else 1.
@@ -45,7 +45,7 @@ mod tests {
         let mut random = Random::new(6);
         for _ in 0..100 {
             let (k, l) = scalars::random_pair(&mut random);
-            let (k, l) = (Big::from_bytes(&k), Big::from_bytes(&l));
+            let (k, l) = (k.value(), l.value());
             let columns = joint::recode(k, l);
             let (k_row, l_row) = joint::rows(&columns);
             for (place, (k_left, l_left)) in remainders(k, l, &columns).into_iter().enumerate() {
@@ -66,13 +66,29 @@ mod tests {
         let mut random = Random::new(7);
         for _ in 0..500 {
             let (k, l) = scalars::random_pair(&mut random);
-            let (k, l) = (Big::from_bytes(&k), Big::from_bytes(&l));
+            let (k, l) = (k.value(), l.value());
             let columns = joint::recode(k, l);
             let (k_codes, l_codes) = of_columns(k, l, &columns);
             for (place, (k_left, l_left)) in remainders(k, l, &columns).into_iter().enumerate() {
                 let follows = (digit(k_codes[place], k_left), digit(l_codes[place], l_left));
                 assert_eq!(follows, columns[place]);
             }
+        }
+    }
+
+    fn codes(k: Big, l: Big) -> (Vec<u8>, Vec<u8>) {
+        of_columns(k, l, &joint::recode(k, l))
+    }
+
+    #[test]
+    fn codes_do_not_change_with_the_signs() {
+        let mut random = Random::new(8);
+        let small = (0..64 * 64).map(|pair| (Big::from(pair / 64), Big::from(pair % 64)));
+        let long: Vec<_> = (0..200).map(|_| scalars::random_pair(&mut random)).collect();
+        for (k, l) in small.chain(long.iter().map(|(k, l)| (k.value(), l.value()))) {
+            assert_eq!(codes(k.negated(), l), codes(k, l));
+            assert_eq!(codes(k, l.negated()), codes(k, l));
+            assert_eq!(codes(k.negated(), l.negated()), codes(k, l));
         }
     }
 }

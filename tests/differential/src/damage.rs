@@ -142,22 +142,33 @@ fn change_number(random: &mut Random, fields: &mut [String]) {
     };
 }
 
-/// Changes one of the scalars, or exchanges them.
+/// Changes one of the scalars or its sign, or exchanges them.
 fn change_scalar(random: &mut Random, fields: &mut [String]) {
     let which = random.below(2);
     let figure = char::from(random.pick(b"0123456789abcdef"));
     let field = &mut fields[which];
-    match random.below(6) {
+    match random.below(9) {
         0 => fields.swap(0, 1),
         1 => field.insert(0, figure),
         2 => field.push(figure),
         3 => drop(field.pop()),
         4 => *field = field.to_uppercase(),
+        5 | 6 => turn_sign(field),
+        7 => *field = random.pick(&["-0", "-00", "-", "--1", "-01", "+1", "1-"]).to_string(),
         _ => {
             let at = random.below(field.len().max(1));
             let end = (at + 1).min(field.len());
             field.replace_range(at..end, &figure.to_string());
         }
+    }
+}
+
+/// Takes the minus away, or puts one before the figures, also before `0`.
+fn turn_sign(field: &mut String) {
+    if field.starts_with('-') {
+        field.remove(0);
+    } else {
+        field.insert(0, '-');
     }
 }
 
@@ -235,6 +246,17 @@ mod tests {
         let mut sheet = String::from_utf8_lossy(GOOD).replace("3,4,7", "0,99,7").into_bytes();
         recount(&mut sheet);
         assert_eq!(sheet, GOOD);
+    }
+
+    #[test]
+    fn turning_a_sign_twice_gives_the_scalar_back() {
+        for scalar in ["7", "-7", "0"] {
+            let mut field = scalar.to_string();
+            turn_sign(&mut field);
+            assert_ne!(field, scalar);
+            turn_sign(&mut field);
+            assert_eq!(field, scalar);
+        }
     }
 
     #[test]

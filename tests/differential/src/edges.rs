@@ -5,7 +5,7 @@
 use crate::answer::Answer;
 use crate::calls::Call;
 use crate::samples::SEVEN_AND_TWO;
-use crate::scalars;
+use crate::scalars::{self, Scalar, SIGNS};
 
 pub fn all() -> Vec<(Call, Answer)> {
     let mut edges = rows();
@@ -18,7 +18,13 @@ pub fn all() -> Vec<(Call, Answer)> {
     edges.extend(code_refusals());
     edges.extend(plan_refusals());
     edges.extend(cheapest_sheets());
+    edges.extend(negative_rows());
+    edges.extend(negative_joint_forms());
+    edges.extend(negative_sheets());
+    edges.extend(zeros_with_a_minus());
+    edges.extend(negative_refusals());
     edges.extend(reads());
+    edges.extend(reads_of_negative_scalars());
     edges
 }
 
@@ -164,8 +170,8 @@ fn plan_refusals() -> Vec<(Call, Answer)> {
 }
 
 fn cheapest_sheets() -> Vec<(Call, Answer)> {
-    let cheapest = |limit, room| Call::Cheapest { k: vec![7], l: vec![2], limit, room };
-    let order = |k, l, limit| Call::Cheapest { k: vec![k], l: vec![l], limit, room: 16_384 };
+    let cheapest = |limit, room| order(&Scalar::plus([7]), &Scalar::plus([2]), limit, room);
+    let order = |k, l, limit| order(&Scalar::plus([k]), &Scalar::plus([l]), limit, 16_384);
     vec![
         (cheapest(30, 16_384), sheet(SEVEN_AND_TWO, 2)),
         (cheapest(31, 16_384), sheet(SEVEN_AND_TWO, 2)),
@@ -191,6 +197,134 @@ const FORTY_FIVE_BY_WINDOW_1: &str =
 const FORTY_FIVE_BY_WINDOW_3: &str =
     "S,I,3,1,2,2,5,2d,0\nT,2,0\nT,3,0\nL,3,0\nD\nD\nD\nD\nA,-3,0\nE\n";
 
+/// The samples with a minus, and the longest rows, under every sign that is one.
+fn negative_rows() -> Vec<(Call, Answer)> {
+    let carried = sparse(529, &[(0, 1), (528, -1)]);
+    let rows: [(&[u8], u32, &[i8]); 7] = [
+        (&[7], 5, &[1, 0, 0, -1]),
+        (&[9], 5, &[-1, 0, 0, -1]),
+        (&[0, 9], 7, &[7, 0, 0, 0, -1]),
+        (&[33], 31, &[31, 0, 0, 0, 0, 0, -1]),
+        (&[53], 3, &[3, 0, 0, 1, 0, 0, -1]),
+        (&[255; 66], 1, &carried),
+        (&[255; 66], 31, &carried),
+    ];
+    let mut edges = Vec::new();
+    for sign in minuses() {
+        for (scalar, m, digits) in rows {
+            let call = signed_row(&Scalar::new(scalar, sign), m, 529);
+            edges.push((call, Answer::Row(digits.to_vec())));
+        }
+    }
+    edges
+}
+
+/// 13 and 10, where a sign turns, and the longest pair, with every two signs: each row is negated
+/// with its own scalar, and no code changes.
+fn negative_joint_forms() -> Vec<(Call, Answer)> {
+    let (thirteen, ten) = ([-1, -1, 0, 0, 1], [0, 1, 0, 1, 0]);
+    let carried = sparse(529, &[(0, -1), (528, 1)]);
+    let with = |sign: u32, row: &[i8]| -> Vec<i8> {
+        row.iter().map(|&digit| if sign == 0 { digit } else { -digit }).collect()
+    };
+    let mut edges = Vec::new();
+    for ks in SIGNS {
+        for ls in SIGNS {
+            let (k, l) = (Scalar::new([13], ks), Scalar::new([0, 10], ls));
+            let (k_row, l_row) = (with(ks, &thirteen), with(ls, &ten));
+            let coded = codes_are(&k_row, &[2, 1, 0, 0, 1], &l_row, &[0, 1, 0, 1, 0]);
+            edges.push((signed_joint(&k, &l, 17, 17), Answer::Columns(k_row, l_row)));
+            edges.push((signed_coded(&k, &l, [17, 18, 19, 20]), coded));
+            let (k, l) = (Scalar::new([255; 66], ks), Scalar::new([255; 66], ls));
+            let columns = Answer::Columns(with(ks, &carried), with(ls, &carried));
+            edges.push((signed_joint(&k, &l, 529, 529), columns));
+        }
+    }
+    edges
+}
+
+/// The printed sheet with each sign turned, and one of plan J.
+fn negative_sheets() -> Vec<(Call, Answer)> {
+    let (seven, two) = (Scalar::plus([7]), Scalar::plus([2]));
+    let mut edges = Vec::new();
+    for sign in minuses() {
+        let (less_seven, less_two) = (seven.with_sign(sign), two.with_sign(sign));
+        edges.extend([
+            (order(&less_seven, &two, 0, 16_384), sheet(LESS_SEVEN_AND_TWO, 2)),
+            (order(&seven, &less_two, 0, 16_384), sheet(SEVEN_LESS_TWO, 2)),
+            (order(&less_seven, &less_two, 31, 16_384), sheet(LESS_SEVEN_LESS_TWO, 2)),
+        ]);
+    }
+    let (k, l) = (Scalar::minus([6]), Scalar::plus([11]));
+    edges.push((Call::PlanJ { k, l, room: 16_384 }, sheet(LESS_SIX_AND_ELEVEN, 4)));
+    let (k, l) = (Scalar::minus([45]), Scalar::plus([0]));
+    let call = Call::PlanI { k, l, m1: 3, m2: 1, room: 16_384 };
+    edges.push((call, sheet(LESS_FORTY_FIVE, 2)));
+    edges
+}
+
+const LESS_SEVEN_AND_TWO: &str = "S,I,1,1,0,2,3,-7,2\nL,-1,0\nD\nD\nA,0,1\nD\nA,1,0\nE\n";
+
+const SEVEN_LESS_TWO: &str = "S,I,1,1,0,2,3,7,-2\nL,1,0\nD\nD\nA,0,-1\nD\nA,-1,0\nE\n";
+
+const LESS_SEVEN_LESS_TWO: &str = "S,I,1,1,0,2,3,-7,-2\nL,-1,0\nD\nD\nA,0,-1\nD\nA,1,0\nE\n";
+
+const LESS_SIX_AND_ELEVEN: &str =
+    "S,J,1,1,2,4,3,-6,b\nT,1,1\nT,1,-1\nL,-1,1\nD\nD\nA,1,1\nD\nA,0,1\nE\n";
+
+const LESS_FORTY_FIVE: &str = "S,I,3,1,2,2,5,-2d,0\nT,2,0\nT,3,0\nL,-3,0\nD\nD\nD\nD\nA,3,0\nE\n";
+
+/// Zero bytes are zero with any sign.
+fn zeros_with_a_minus() -> Vec<(Call, Answer)> {
+    let mut edges = Vec::new();
+    for sign in minuses() {
+        for bytes in [1, 2, 66] {
+            let zero = Scalar::new(vec![0; bytes], sign);
+            let one = Scalar::plus([1]);
+            let places = 8 * bytes + 1;
+            let (k, l) = (zero.clone(), zero.clone());
+            edges.extend([
+                (signed_row(&zero, 31, places), Answer::Row(vec![])),
+                (signed_joint(&zero, &zero, places, places), Answer::Columns(vec![], vec![])),
+                (signed_joint(&zero, &one, places, places), Answer::Columns(vec![0], vec![1])),
+                (signed_coded(&one, &zero, [places; 4]), codes_are(&[1], &[1], &[0], &[0])),
+                (order(&zero, &zero, 31, 16_384), sheet("S,I,1,1,0,0,0,0,0\nE\n", 0)),
+                (order(&zero, &one, 0, 16_384), sheet("S,I,1,1,0,0,0,0,1\nL,0,1\nE\n", 0)),
+                (order(&one, &zero, 0, 16_384), sheet("S,I,1,1,0,0,0,1,0\nL,1,0\nE\n", 0)),
+                (
+                    Call::PlanJ { k, l, room: 16_384 },
+                    sheet("S,J,1,1,2,2,0,0,0\nT,1,1\nT,1,-1\nE\n", 2),
+                ),
+            ]);
+        }
+    }
+    edges
+}
+
+/// A minus neither meets a question nor misses one.
+fn negative_refusals() -> Vec<(Call, Answer)> {
+    let mut edges = Vec::new();
+    for sign in minuses() {
+        let scalar = |bytes: usize| Scalar::new(vec![7; bytes], sign);
+        edges.extend([
+            (signed_row(&scalar(0), 4, 0), refused(1)),
+            (signed_row(&scalar(67), 1, 537), refused(1)),
+            (signed_row(&scalar(66), 4, 529), refused(2)),
+            (signed_row(&scalar(66), 1, 528), refused(3)),
+            (signed_joint(&scalar(1), &scalar(0), 9, 9), refused(1)),
+            (signed_joint(&scalar(67), &scalar(1), 537, 537), refused(1)),
+            (signed_joint(&scalar(1), &scalar(2), 16, 17), refused(3)),
+            (signed_coded(&scalar(0), &scalar(1), [9; 4]), refused(1)),
+            (signed_coded(&scalar(1), &scalar(1), [9, 9, 9, 8]), refused(3)),
+            (order(&scalar(0), &scalar(1), 32, 0), refused(1)),
+            (order(&scalar(1), &scalar(67), 0, 16_384), refused(1)),
+            (order(&scalar(1), &scalar(1), 32, 16_384), refused(4)),
+            (order(&scalar(1), &scalar(1), 31, 16_383), refused(3)),
+        ]);
+    }
+    edges
+}
+
 fn reads() -> Vec<(Call, Answer)> {
     vec![
         (Call::Read { sheet: vec![b'E'; 16_384] }, Answer::refused(6, 1)),
@@ -200,6 +334,41 @@ fn reads() -> Vec<(Call, Answer)> {
         // An older header, without the place of the working double.
         (read(&FORTY_FIVE_BY_WINDOW_3.replace("S,I,3,1,2", "S,I,3,1,1")), Answer::refused(7, 1)),
     ]
+}
+
+/// Each sheet under its own header and under those with another sign; `-0` and its like; and the
+/// longest scalars behind a minus.
+fn reads_of_negative_scalars() -> Vec<(Call, Answer)> {
+    let sheets = [
+        ("7,2", SEVEN_AND_TWO),
+        ("-7,2", LESS_SEVEN_AND_TWO),
+        ("7,-2", SEVEN_LESS_TWO),
+        ("-7,-2", LESS_SEVEN_LESS_TWO),
+    ];
+    let mut edges = Vec::new();
+    for (own, sheet) in sheets {
+        for (other, _) in sheets {
+            let answer = if own == other { Answer::Accepted } else { Answer::refused(11, 1) };
+            edges.push((read(&sheet.replacen(own, other, 1)), answer));
+        }
+    }
+    for bad in ["-0", "-00", "-07", "--7", "-", "+7", "7-", "-A"] {
+        for pair in [format!("{bad},2\n"), format!("7,{bad}\n")] {
+            edges.push((read(&SEVEN_AND_TWO.replace("7,2\n", &pair)), Answer::refused(6, 1)));
+        }
+    }
+    let ones = "f".repeat(132);
+    let all_ones = |sign| format!("S,I,1,1,0,1,528,{sign}{ones},0\n");
+    let steps = format!("L,-1,0\n{}A,1,0\nE\n", "D\n".repeat(528));
+    edges.push((read(&format!("{}{steps}", all_ones("-"))), Answer::Accepted));
+    edges.push((read(&format!("{}{steps}", all_ones(""))), Answer::refused(11, 1)));
+    edges.push((read(&format!("{}{steps}", all_ones("-f"))), Answer::refused(6, 1)));
+    edges
+}
+
+/// The signs that are minus.
+fn minuses() -> impl Iterator<Item = u32> {
+    SIGNS.into_iter().filter(|&sign| sign != 0)
 }
 
 /// A row of so many places that holds these digits and else 0.
@@ -222,15 +391,32 @@ fn refused(number: u32) -> Answer {
 }
 
 fn row(scalar: &[u8], m: u32, places: usize) -> Call {
-    Call::Row { scalar: scalar.to_vec(), m, places }
+    signed_row(&Scalar::plus(scalar), m, places)
+}
+
+fn signed_row(scalar: &Scalar, m: u32, places: usize) -> Call {
+    Call::Row { scalar: scalar.clone(), m, places }
 }
 
 fn joint(k: &[u8], l: &[u8], k_places: usize, l_places: usize) -> Call {
-    Call::Joint { k: k.to_vec(), l: l.to_vec(), k_places, l_places }
+    signed_joint(&Scalar::plus(k), &Scalar::plus(l), k_places, l_places)
+}
+
+fn signed_joint(k: &Scalar, l: &Scalar, k_places: usize, l_places: usize) -> Call {
+    Call::Joint { k: k.clone(), l: l.clone(), k_places, l_places }
 }
 
 fn coded(k: &[u8], l: &[u8], rooms: [usize; 4]) -> Call {
-    Call::JointCodes { k: k.to_vec(), l: l.to_vec(), rooms }
+    signed_coded(&Scalar::plus(k), &Scalar::plus(l), rooms)
+}
+
+fn signed_coded(k: &Scalar, l: &Scalar, rooms: [usize; 4]) -> Call {
+    Call::JointCodes { k: k.clone(), l: l.clone(), rooms }
+}
+
+/// The cheapest sheet.
+fn order(k: &Scalar, l: &Scalar, limit: u32, room: usize) -> Call {
+    Call::Cheapest { k: k.clone(), l: l.clone(), limit, room }
 }
 
 fn codes_are(k_row: &[i8], k_codes: &[i8], l_row: &[i8], l_codes: &[i8]) -> Answer {
@@ -245,12 +431,16 @@ fn codes_are(k_row: &[i8], k_codes: &[i8], l_row: &[i8], l_codes: &[i8]) -> Answ
 
 /// Plan J of two scalars in so many bytes.
 fn plan_j(k_bytes: usize, l_bytes: usize, room: usize) -> Call {
-    Call::PlanJ { k: vec![7; k_bytes], l: vec![7; l_bytes], room }
+    Call::PlanJ { k: sevens(k_bytes), l: sevens(l_bytes), room }
 }
 
 /// Plan I of two scalars in so many bytes.
 fn plan_i(k_bytes: usize, l_bytes: usize, m1: u32, m2: u32, room: usize) -> Call {
-    Call::PlanI { k: vec![7; k_bytes], l: vec![7; l_bytes], m1, m2, room }
+    Call::PlanI { k: sevens(k_bytes), l: sevens(l_bytes), m1, m2, room }
+}
+
+fn sevens(bytes: usize) -> Scalar {
+    Scalar::plus(vec![7; bytes])
 }
 
 #[cfg(test)]

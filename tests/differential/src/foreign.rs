@@ -57,14 +57,15 @@ fn row(random: &mut Random, scalar: Big, m: u8) -> Vec<i8> {
     }
 }
 
-/// Plain bits for digits.
+/// Plain bits for digits, negated if the scalar is negative.
 fn binary_row(scalar: Big) -> Vec<i8> {
+    let sign = if scalar.is_negative() { -1 } else { 1 };
     let mut digits = Vec::new();
     let mut rest = scalar;
     while !rest.is_zero() {
-        let bit = i8::from(rest.is_odd());
-        digits.push(bit);
-        rest = rest.after(bit);
+        let digit = if rest.is_odd() { sign } else { 0 };
+        digits.push(digit);
+        rest = rest.after(digit);
     }
     digits
 }
@@ -115,7 +116,7 @@ mod tests {
     fn rows_have_the_value_and_the_length() {
         let mut random = Random::new(8);
         for _ in 0..500 {
-            let scalar = scalars::value(&scalars::random(&mut random));
+            let scalar = scalars::random(&mut random).value();
             let m = random.window();
             assert_eq!(value(&binary_row(scalar)), scalar);
             assert_eq!(value(&wasteful_row(&mut random, scalar, m, 0)), scalar);
@@ -129,8 +130,8 @@ mod tests {
     fn sheets_are_accepted() {
         let mut random = Random::new(9);
         for plan in Plan::all() {
-            let k = scalars::value(&random.bytes(20));
-            let l = scalars::value(&random.bytes(50));
+            let k = scalars::random_of_length(&mut random, 20).value();
+            let l = scalars::random_of_length(&mut random, 50).value();
             let sheet = sheet(&mut random, plan, k, l);
             assert_eq!(reader::read(&sheet.to_bytes()), Ok(()));
         }
@@ -140,7 +141,7 @@ mod tests {
     fn false_sheets_come_as_far_as_their_result() {
         let mut random = Random::new(12);
         let plan = Plan::Interleaved { m1: 31, m2: 31 };
-        let (k, l) = (Big::from(5), Big::from(9));
+        let (k, l) = (Big::from(5), Big::from(-9));
         let reads = (0..100).map(|_| {
             let sheet = false_sheet(&mut random, plan, k, l);
             reader::read(&sheet.to_bytes())
@@ -153,7 +154,7 @@ mod tests {
     fn sheets_of_529_places_are_accepted_and_longer_ones_not() {
         let mut random = Random::new(10);
         let plan = Plan::Interleaved { m1: 1, m2: 1 };
-        let (k, l) = (Big::from(5), Big::from(9));
+        let (k, l) = (Big::from(5), Big::from(-9));
         let longest = stretched_sheet(&mut random, plan, k, l, 529);
         assert_eq!(reader::read(&longest.to_bytes()), Ok(()));
         let longer = stretched_sheet(&mut random, plan, k, l, 530);

@@ -108,7 +108,7 @@ mod tests {
         let mut random = Random::new(4);
         for _ in 0..500 {
             let (k, l) = scalars::random_pair(&mut random);
-            let (k, l) = (Big::from_bytes(&k), Big::from_bytes(&l));
+            let (k, l) = (k.value(), l.value());
             let columns = recode(k, l);
             let (k_row, l_row) = rows(&columns);
             assert_eq!((row::value(&k_row), row::value(&l_row)), (k, l));
@@ -118,10 +118,28 @@ mod tests {
         }
     }
 
+    fn form(k: Big, l: Big) -> (Vec<i8>, Vec<i8>) {
+        rows(&recode(k, l))
+    }
+
+    #[test]
+    fn rows_negate_singly_each_with_its_number() {
+        let negated = |row: &[i8]| row.iter().map(|digit| -digit).collect::<Vec<i8>>();
+        let mut random = Random::new(14);
+        let small = (0..64 * 64).map(|pair| (Big::from(pair / 64), Big::from(pair % 64)));
+        let long: Vec<_> = (0..200).map(|_| scalars::random_pair(&mut random)).collect();
+        for (k, l) in small.chain(long.iter().map(|(k, l)| (k.value(), l.value()))) {
+            let (k_row, l_row) = form(k, l);
+            assert_eq!(form(k.negated(), l), (negated(&k_row), l_row.clone()));
+            assert_eq!(form(k, l.negated()), (k_row.clone(), negated(&l_row)));
+            assert_eq!(form(k.negated(), l.negated()), (negated(&k_row), negated(&l_row)));
+        }
+    }
+
     #[test]
     fn the_rules_leave_one_form() {
-        for k in 0..128 {
-            for l in 0..128 {
+        for k in -64..128 {
+            for l in -64..128 {
                 assert_eq!(count_forms(Big::from(k), Big::from(l), &mut Vec::new()), 1);
             }
         }
@@ -132,7 +150,7 @@ mod tests {
         let mut random = Random::new(5);
         for _ in 0..100 {
             let (k, l) = scalars::random_pair(&mut random);
-            let (k, l) = (Big::from_bytes(&k), Big::from_bytes(&l));
+            let (k, l) = (k.value(), l.value());
             assert_eq!(count_forms(k, l, &mut Vec::new()), 1);
         }
     }

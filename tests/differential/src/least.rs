@@ -74,7 +74,7 @@ mod tests {
     fn rows_have_the_least_weight() {
         for m in row::windows() {
             let least = Least::of_rows(300, m);
-            for value in 0..=300 {
+            for value in -300..=300 {
                 let digits = row::recode(Big::from(value), m);
                 assert_eq!(row::weight(&digits), least.weight(value as i32, 0));
             }
@@ -84,8 +84,8 @@ mod tests {
     #[test]
     fn joint_forms_have_the_least_weight() {
         let least = Least::of_columns(160);
-        for k in 0..=160 {
-            for l in 0..=160 {
+        for k in -160..=160 {
+            for l in -160..=160 {
                 let columns = joint::recode(Big::from(k), Big::from(l));
                 assert_eq!(joint::weight(&columns), least.weight(k as i32, l as i32));
             }

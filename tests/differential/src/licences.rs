@@ -83,11 +83,6 @@ pub fn all() -> Licences {
 mod tests {
     use super::*;
 
-    fn number(bytes: &[u8]) -> Number {
-        let figures: String = bytes.iter().map(|byte| format!("{byte:02x}")).collect();
-        Number::from_hex(&figures).expect("hexadecimal figures")
-    }
-
     #[test]
     fn sixty_on_three_curves_are_valid() {
         let all = all();
@@ -95,8 +90,8 @@ mod tests {
         for licence in &all.licences {
             let curve = &licence.curve;
             let (u1, u2) = licence.scalars();
-            let of_g = curve.multiple(number(&u1), curve.g);
-            let of_q = curve.multiple(number(&u2), licence.q);
+            let of_g = curve.multiple(Number::from_bytes(&u1), curve.g);
+            let of_q = curve.multiple(Number::from_bytes(&u2), licence.q);
             assert!(licence.is_valid(curve.sum(of_g, of_q)));
             assert!(!licence.is_valid(of_g));
             assert!(!licence.is_valid(None));
@@ -107,9 +102,9 @@ mod tests {
     fn a_licence_is_made_for_two_scalars() {
         let all = all();
         for licence in all.licences.iter().step_by(20) {
-            let (u1, u2) = (number(&[7]), number(&[2; 32]));
-            let scalars = licence.with_scalars(u1, u2).scalars();
-            assert_eq!((number(&scalars.0), number(&scalars.1)), (u1, u2));
+            let (u1, u2) = (Number::from_bytes(&[7]), Number::from_bytes(&[2; 32]));
+            let (k, l) = licence.with_scalars(u1, u2).scalars();
+            assert_eq!((Number::from_bytes(&k), Number::from_bytes(&l)), (u1, u2));
         }
     }
 }

@@ -53,6 +53,7 @@ fn compare_everything(judge: &mut Judge, seed: u64) {
     section(judge, "cheapest sheets", |judge| runs::cheapest::run(judge, random));
     section(judge, "changed orders", runs::changed_orders::run);
     section(judge, "small scalars", runs::small::run);
+    section(judge, "signs", |judge| runs::signs::run(judge, random));
     section(judge, "reads", |judge| {
         for (number, count) in runs::reads::run(judge, random).by_number() {
             println!("  reads answered {number}: {count}");

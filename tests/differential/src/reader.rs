@@ -159,8 +159,16 @@ fn parse_decimal(field: &[u8], most: usize) -> Option<usize> {
     spelled.then(|| field.iter().fold(0, append))
 }
 
-/// A hexadecimal scalar with no leading zero.
+/// A hexadecimal scalar, with a minus before its figures if negative, never `-0`.
 fn parse_scalar(field: &[u8]) -> Option<Big> {
+    match field.strip_prefix(b"-") {
+        Some(figures) => parse_figures(figures).filter(|size| !size.is_zero()).map(Big::negated),
+        None => parse_figures(field),
+    }
+}
+
+/// A hexadecimal number of 1 to 132 figures with no leading zero.
+fn parse_figures(field: &[u8]) -> Option<Big> {
     let is_figure = |byte: &u8| matches!(byte, b'0'..=b'9' | b'a'..=b'f');
     let spelled = has_figures(field, LONGEST_SCALAR) && field.iter().all(is_figure);
     spelled.then(|| Big::from_hex(field))
@@ -316,13 +324,46 @@ mod tests {
         {
             check(&GOOD.replace("S,I,1,1,0", bad), 6, 1);
         }
-        for bad in ["07,2", "7,02", "7,", ",2", "7,G", "7,A", "7,-2", "7,2,", "7,00"] {
+        for bad in ["07,2", "7,02", "7,", ",2", "7,G", "7,A", "7,2,", "7,00"] {
             check(&GOOD.replace("7,2\n", &format!("{bad}\n")), 6, 1);
         }
         let longest = "1".repeat(132);
         check(&GOOD.replace("7,2\n", &format!("7,{longest}\n")), 11, 1);
         check(&GOOD.replace("7,2\n", &format!("7,{longest}1\n")), 6, 1);
         check(&GOOD.replace("D\nA,0,1\n", "D\r\nA,0,1\n"), 6, 4);
+    }
+
+    #[test]
+    fn a_minus_before_a_scalar() {
+        let bad =
+            ["-0", "-00", "-07", "--7", "-", "+7", "7-", "- 7", " -7", "-A", "-0x7", "-g", "0-7"];
+        for bad in bad {
+            check(&GOOD.replace("7,2\n", &format!("{bad},2\n")), 6, 1);
+            check(&GOOD.replace("7,2\n", &format!("7,{bad}\n")), 6, 1);
+        }
+        for field in ["S,I,-1,1,0", "S,I,1,-1,0", "S,I,1,1,-0", "S,-I,1,1,0", "S,I,1,1,0,-2"] {
+            check(&GOOD.replace("S,I,1,1,0", field), 6, 1);
+        }
+        // The minus is not one of the 132 figures.
+        let longest = "f".repeat(132);
+        check(&GOOD.replace("7,2\n", &format!("-{longest},-{longest}\n")), 11, 1);
+        check(&GOOD.replace("7,2\n", &format!("-{longest}f,2\n")), 6, 1);
+        check(&GOOD.replace("7,2\n", &format!("7,-{longest}f\n")), 6, 1);
+    }
+
+    #[test]
+    fn the_result_is_compared_with_the_signed_pair() {
+        let signs = [(1, 1), (1, -1), (-1, 1), (-1, -1)];
+        for (a, b) in signs {
+            let body = format!("L,{a},0\nD\nD\nA,0,{b}\nD\nA,{},0\nE\n", -a);
+            for (ks, ls) in signs {
+                let (number, line) = if (a, b) == (ks, ls) { (0, 0) } else { (11, 1) };
+                check(&format!("S,I,1,1,0,2,3,{},{}\n{body}", 7 * ks, 2 * ls), number, line);
+            }
+        }
+        check("S,I,1,1,0,0,0,-1,0\nL,-1,0\nE\n", 0, 0);
+        check("S,I,1,1,0,0,0,1,0\nL,-1,0\nE\n", 11, 1);
+        check("S,I,1,1,0,0,0,-1,0\nE\n", 11, 1);
     }
 
     #[test]
@@ -356,7 +397,7 @@ mod tests {
         check(&GOOD.replace("L,1,0\n", "L,1,0\nA,1,0\n"), 8, 3);
         check("S,J,1,1,2,3,0,1,1\nT,1,1\nT,1,-1\nL,1,0\nA,0,1\nE\n", 8, 5);
         check("S,J,1,1,2,2,0,2,1\nT,1,1\nT,1,-1\nL,2,1\nE\n", 8, 4);
-        check("S,J,1,1,2,2,0,1,-1\nT,1,1\nT,1,-1\nL,1,-1\nE\n", 6, 1);
+        check("S,J,1,1,2,2,0,1,-1\nT,1,1\nT,1,-1\nL,1,-1\nE\n", 0, 0);
         check("S,J,1,1,2,3,1,3,1\nT,1,1\nT,1,-1\nL,1,1\nD\nA,1,-1\nE\n", 0, 0);
     }
 

@@ -7,7 +7,7 @@ pub fn windows() -> impl Iterator<Item = u8> + Clone {
     (1..=31).step_by(2)
 }
 
-/// The scalar's row for window m, place 0 first.
+/// The scalar's row for window m, place 0 first, by the same rule for either sign.
 pub fn recode(scalar: Big, m: u8) -> Vec<i8> {
     let width = width(m);
     let mut digits = Vec::new();
@@ -67,7 +67,7 @@ mod tests {
     fn rows_have_the_value_the_digits_and_the_length() {
         let mut random = Random::new(1);
         for _ in 0..300 {
-            let scalar = Big::from_bytes(&scalars::random(&mut random));
+            let scalar = scalars::random(&mut random).value();
             for m in windows() {
                 let digits = recode(scalar, m);
                 assert_eq!(value(&digits), scalar);
@@ -79,10 +79,23 @@ mod tests {
     }
 
     #[test]
+    fn the_row_of_a_negated_number_is_the_row_negated() {
+        let mut random = Random::new(4);
+        let small = (0..2000).map(Big::from);
+        let long: Vec<Big> = (0..100).map(|_| scalars::random(&mut random).value()).collect();
+        for number in small.chain(long) {
+            for m in windows() {
+                let negated: Vec<i8> = recode(number, m).iter().map(|digit| -digit).collect();
+                assert_eq!(recode(number.negated(), m), negated);
+            }
+        }
+    }
+
+    #[test]
     fn window_one_is_non_adjacent() {
         let mut random = Random::new(2);
         for _ in 0..300 {
-            let digits = recode(Big::from_bytes(&scalars::random(&mut random)), 1);
+            let digits = recode(scalars::random(&mut random).value(), 1);
             assert!(digits.windows(2).all(|two| two[0] == 0 || two[1] == 0));
         }
     }
@@ -91,7 +104,7 @@ mod tests {
     fn full_windows_have_one_digit_in_width_places() {
         let mut random = Random::new(3);
         for _ in 0..300 {
-            let scalar = Big::from_bytes(&scalars::random(&mut random));
+            let scalar = scalars::random(&mut random).value();
             for w in 2..=6 {
                 let digits = recode(scalar, ((1u32 << (w - 1)) - 1) as u8);
                 assert!(digits.windows(w).all(|places| weight(places) <= 1));

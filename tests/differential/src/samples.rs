@@ -3,6 +3,7 @@
 
 use crate::answer::Answer;
 use crate::calls::Call;
+use crate::scalars::Scalar;
 
 /// What a sample says of the answer to its call.
 pub enum Says {
@@ -59,7 +60,8 @@ fn rows() -> Vec<(Call, Says)> {
 
 fn joint_forms() -> Vec<(Call, Says)> {
     let sample = |k, l, k_row: &[i8], l_row: &[i8]| {
-        let call = Call::Joint { k: vec![k], l: vec![l], k_places: 9, l_places: 9 };
+        let (k, l) = (Scalar::plus([k]), Scalar::plus([l]));
+        let call = Call::Joint { k, l, k_places: 9, l_places: 9 };
         (call, Says::Whole(Answer::Columns(k_row.to_vec(), l_row.to_vec())))
     };
     vec![
@@ -73,7 +75,8 @@ fn joint_forms() -> Vec<(Call, Says)> {
 /// The joint forms that turn a sign, and one that does not, with their codes worked out by hand.
 fn codes() -> Vec<(Call, Says)> {
     let sample = |k, l, k_row: &[i8], k_codes: &[u8], l_row: &[i8], l_codes: &[u8]| {
-        let call = Call::JointCodes { k: vec![k], l: vec![l], rooms: [9; 4] };
+        let (k, l) = (Scalar::plus([k]), Scalar::plus([l]));
+        let call = Call::JointCodes { k, l, rooms: [9; 4] };
         let (k_row, l_row) = (k_row.to_vec(), l_row.to_vec());
         let (k_codes, l_codes) = (k_codes.to_vec(), l_codes.to_vec());
         (call, Says::Whole(Answer::Coded { k_row, l_row, k_codes, l_codes }))
@@ -132,7 +135,8 @@ fn printed_rows() -> Vec<(Call, Says)> {
 /// The finished joint form of two scalars that source document 003 prints in example 4.7, as there
 /// with the top column first.
 fn printed_joint_forms() -> Vec<(Call, Says)> {
-    let call = Call::Joint { k: vec![53], l: vec![42], k_places: 9, l_places: 9 };
+    let (k, l) = (Scalar::plus([53]), Scalar::plus([42]));
+    let call = Call::Joint { k, l, k_places: 9, l_places: 9 };
     let k_row = from_place_0(&[1, 0, 0, -1, 0, -1, -1]);
     let l_row = from_place_0(&[0, 1, 0, 1, 0, 1, 0]);
     vec![(call, Says::Whole(Answer::Columns(k_row, l_row)))]
@@ -144,11 +148,11 @@ fn from_place_0(printed: &[i8]) -> Vec<i8> {
 
 fn row(scalar: Vec<u8>, m: u32) -> Call {
     let places = 8 * scalar.len() + 1;
-    Call::Row { scalar, m, places }
+    Call::Row { scalar: Scalar::plus(scalar), m, places }
 }
 
 fn cheapest(k: u8, l: u8, limit: u32, room: usize) -> Call {
-    Call::Cheapest { k: vec![k], l: vec![l], limit, room }
+    Call::Cheapest { k: Scalar::plus([k]), l: Scalar::plus([l]), limit, room }
 }
 
 #[cfg(test)]

@@ -1,22 +1,88 @@
-//! Scalars of many kinds, in 1 to 66 bytes.
+//! Scalars of many kinds, in 1 to 66 bytes, with a sign.
 
 use crate::big::Big;
 use crate::random::Random;
 
 pub const MOST_BYTES: usize = 66;
 
-/// A scalar of a random kind and length.
-pub fn random(random: &mut Random) -> Vec<u8> {
+/// Plus, and four of the numbers that are minus.
+pub const SIGNS: [u32; 5] = [0, 1, 2, 256, u32::MAX];
+
+/// A scalar as a call takes it.
+#[derive(Clone, PartialEq, Eq, Debug)]
+pub struct Scalar {
+    /// The most significant byte first.
+    pub bytes: Vec<u8>,
+    /// 0 for plus, any other number for minus.
+    pub sign: u32,
+}
+
+impl Scalar {
+    pub fn new(bytes: impl Into<Vec<u8>>, sign: u32) -> Scalar {
+        Scalar { bytes: bytes.into(), sign }
+    }
+
+    pub fn plus(bytes: impl Into<Vec<u8>>) -> Scalar {
+        Scalar::new(bytes, 0)
+    }
+
+    pub fn minus(bytes: impl Into<Vec<u8>>) -> Scalar {
+        Scalar::new(bytes, 1)
+    }
+
+    /// These bytes with another sign.
+    #[must_use]
+    pub fn with_sign(&self, sign: u32) -> Scalar {
+        Scalar::new(self.bytes.clone(), sign)
+    }
+
+    /// The number that the bytes and the sign mean.
+    pub fn value(&self) -> Big {
+        let size = Big::from_bytes(&self.bytes);
+        if self.sign == 0 {
+            size
+        } else {
+            size.negated()
+        }
+    }
+}
+
+/// The bytes with a random sign.
+pub fn signed(random: &mut Random, bytes: impl Into<Vec<u8>>) -> Scalar {
+    Scalar::new(bytes, random_sign(random))
+}
+
+/// Plus half of the times; else a minus, often one with a single bit.
+fn random_sign(random: &mut Random) -> u32 {
+    match random.below(4) {
+        0 | 1 => 0,
+        2 => random.pick(&SIGNS[1..]),
+        _ => 1 << random.below(32),
+    }
+}
+
+/// A scalar of a random kind and length, with a random sign.
+pub fn random(random: &mut Random) -> Scalar {
+    let bytes = random_bytes(random);
+    signed(random, bytes)
+}
+
+/// A scalar of a random kind in so many bytes, with a random sign.
+pub fn random_of_length(random: &mut Random, bytes: usize) -> Scalar {
+    let bytes = bytes_of_length(random, bytes);
+    signed(random, bytes)
+}
+
+fn random_bytes(random: &mut Random) -> Vec<u8> {
     let bytes = match random.below(4) {
         0 => random.between(1, 4),
         1 => MOST_BYTES,
         _ => random.between(1, MOST_BYTES),
     };
-    random_of_length(random, bytes)
+    bytes_of_length(random, bytes)
 }
 
-/// A scalar of a random kind in so many bytes.
-pub fn random_of_length(random: &mut Random, bytes: usize) -> Vec<u8> {
+fn bytes_of_length(random: &mut Random, bytes: usize) -> Vec<u8> {
     match random.below(8) {
         0 | 1 => random.bytes(bytes),
         2 => runs(random, bytes),
@@ -72,17 +138,18 @@ fn flip(scalar: &mut [u8], place: usize) {
     scalar[byte] ^= 1 << (place % 8);
 }
 
-/// Two scalars, independent or akin.
-pub fn random_pair(random: &mut Random) -> (Vec<u8>, Vec<u8>) {
-    let k = self::random(random);
+/// Two scalars, independent or akin, each with a random sign.
+pub fn random_pair(random: &mut Random) -> (Scalar, Scalar) {
+    let k = random_bytes(random);
     let l = match random.below(8) {
         0 => k.clone(),
         1 => k.iter().map(|byte| !byte).collect(),
         2 => half(&k),
         3 => vec![0; random.between(1, MOST_BYTES)],
-        4 => random_of_length(random, k.len()),
-        _ => self::random(random),
+        4 => bytes_of_length(random, k.len()),
+        _ => random_bytes(random),
     };
+    let (k, l) = (signed(random, k), signed(random, l));
     if random.once_in(2) {
         (k, l)
     } else {
@@ -110,7 +177,7 @@ pub fn of_every_length(random: &mut Random) -> Vec<Vec<u8>> {
         flip(&mut one, 0);
         flip(&mut top, 8 * bytes - 1);
         scalars.extend([zero, one, top, vec![255; bytes]]);
-        scalars.extend((0..4).map(|_| random_of_length(random, bytes)));
+        scalars.extend((0..4).map(|_| bytes_of_length(random, bytes)));
     }
     scalars
 }
@@ -162,26 +229,43 @@ pub fn dense_pair() -> (Vec<u8>, Vec<u8>) {
     (repeated([0x24, 0x92, 0x49]), repeated([0x49, 0x24, 0x92]))
 }
 
-/// A small scalar in one byte.
-pub fn small(value: u8) -> Vec<u8> {
-    vec![value]
-}
-
-/// The number that a scalar's bytes mean.
-pub fn value(scalar: &[u8]) -> Big {
-    Big::from_bytes(scalar)
-}
-
 #[cfg(test)]
 mod tests {
     use super::*;
+
+    fn value(bytes: &[u8]) -> Big {
+        Big::from_bytes(bytes)
+    }
 
     #[test]
     fn lengths_are_1_to_66() {
         let mut generator = Random::new(7);
         for _ in 0..2000 {
-            assert!((1..=MOST_BYTES).contains(&random(&mut generator).len()));
+            assert!((1..=MOST_BYTES).contains(&random(&mut generator).bytes.len()));
         }
+    }
+
+    #[test]
+    fn every_sign_but_0_is_minus() {
+        for sign in SIGNS {
+            let expected = if sign == 0 { 0x107 } else { -0x107 };
+            assert_eq!(Scalar::new([1, 7], sign).value(), Big::from(expected));
+            assert_eq!(Scalar::new([0; 66], sign).value(), Big::ZERO);
+        }
+        assert_eq!(Scalar::minus([7]).value(), Scalar::plus([7]).value().negated());
+    }
+
+    #[test]
+    fn all_pairs_of_signs_and_every_bit_of_a_sign_come_up() {
+        let mut generator = Random::new(8);
+        let (mut pairs, mut bits) = ([0; 4], 0);
+        for _ in 0..2000 {
+            let (k, l) = random_pair(&mut generator);
+            pairs[usize::from(k.sign != 0) * 2 + usize::from(l.sign != 0)] += 1;
+            bits |= if k.sign.is_power_of_two() { k.sign } else { 0 };
+        }
+        assert!(pairs.iter().all(|&count| count > 400));
+        assert_eq!(bits, u32::MAX);
     }
 
     #[test]

@@ -93,6 +93,8 @@ impl fmt::Display for Sheet {
 #[cfg(test)]
 mod tests {
     use super::*;
+    use crate::random::Random;
+    use crate::{reader, scalars};
 
     #[test]
     fn zero_has_a_table_and_no_load() {
@@ -108,5 +110,25 @@ mod tests {
         let plan = Plan::Interleaved { m1: 1, m2: 1 };
         let sheet = Sheet::of_plan(plan, Big::from(1), Big::from(1));
         assert_eq!(sheet.to_string(), "S,I,1,1,0,1,0,1,1\nL,1,0\nA,0,1\nE\n");
+    }
+    #[test]
+    fn a_minus_stands_in_the_header_and_before_the_digits() {
+        let sheet = |k, l| {
+            let plan = Plan::Interleaved { m1: 1, m2: 1 };
+            Sheet::of_plan(plan, Big::from(k), Big::from(l)).to_string()
+        };
+        assert_eq!(sheet(-3, 1), "S,I,1,1,0,2,2,-3,1\nL,-1,0\nD\nD\nA,1,0\nA,0,1\nE\n");
+        assert_eq!(sheet(3, -1), "S,I,1,1,0,2,2,3,-1\nL,1,0\nD\nD\nA,-1,0\nA,0,-1\nE\n");
+        assert_eq!(sheet(-26, 0), "S,I,1,1,0,2,5,-1a,0\nL,-1,0\nD\nD\nA,1,0\nD\nD\nA,-1,0\nD\nE\n");
+    }
+
+    #[test]
+    fn every_plan_s_sheet_is_accepted_for_its_signed_pair() {
+        let mut random = Random::new(16);
+        for plan in Plan::all() {
+            let (k, l) = scalars::random_pair(&mut random);
+            let sheet = Sheet::of_plan(plan, k.value(), l.value());
+            assert_eq!(reader::read(&sheet.to_bytes()), Ok(()));
+        }
     }
 }

@@ -10,17 +10,20 @@ use native.Mathlib.Nat.{le-trans}
 use native.Mathlib.Omega.{arith}
 use borrow.Author.Tests.{leb-true, eqb-true, eq-eqb}
 use lib.Dec.{T, eqb}
+use lib.IntN.{ℤ, pos}
 use Rattle.digits.specs.Limits.{card}
 use Rattle.digits.specs.Scalar.Sized.{both}
 use Rattle.sheet.specs.declared.Plan.{Plan}
 use Rattle.sheet.specs.declared.Plan.the-variants.{J, I}
 use Rattle.sheet.specs.Numeral.Read.{number-numeral}
+use Rattle.sheet.specs.Spelling.{scalar, readScalar}
+use Rattle.sheet.specs.Spelling.Whole.{read-whole}
 use Rattle.chooser.specs.Cheapest.Lists.{in-map}
 use Rattle.chooser.specs.Lexicographic.{before}
 use Rattle.chooser.specs.Lexicographic.Order.{In, here, there, before-less, before-agrees}
 use Rattle.chooser.specs.Numbers.{from}
 use Rattle.order.specs.Order.{Order, readFields}
-use Rattle.changes.specs.Changed.{Affected, Sorted, orders, oldOf, newOf, samePlan, changed, orderFields}
+use Rattle.changes.specs.Changed.{Small, Affected, sortKey, Sorted, orders, oldOf, newOf, samePlan, changed, orderFields}
 use Rattle.changes.specs.Body.{orderAt}
 
 -- ── the same plan ───────────────────────────────────────────────────────────────────────────
@@ -83,18 +86,20 @@ pub orders-numbered : map orderAt (from 0 1024) ≡ orders
 unfolding from orders
 orders-numbered = refl
 
-in-orders : (o : Order) → o .k < 16 → o .l < 16 → o .slots ≤ 3 → In o orders
-in-orders o a b c =
-    let n = 64 * o .k + 4 * o .l + o .slots in
-    let k : (0 + n) / 64 ≡ o .k = omega arith in
-    let l : (0 + n) / 4 % 16 ≡ o .l = omega arith in
+in-orders : (o : Order) → Small (o .k) → Small (o .l) → o .slots ≤ 3 → In o orders
+in-orders o (x, a, e) (y, b, f) c =
+    let n = 64 * x + 4 * y + o .slots in
+    let k : (0 + n) / 64 ≡ x = omega arith in
+    let l : (0 + n) / 4 % 16 ≡ y = omega arith in
     let s : (0 + n) % 4 ≡ o .slots = omega arith in
-    subst (In o) orders-numbered (subst (λ (x : Order). In x (map orderAt (from 0 1024))) (λ i. record { k = k i; l = l i; slots = s i }) (in-map orderAt (in-from 0 1024 n (omega arith))))
+    let g : pos ((0 + n) / 64) ≡ o .k = ap pos k ∙ sym e in
+    let h : pos ((0 + n) / 4 % 16) ≡ o .l = ap pos l ∙ sym f in
+    subst (In o) orders-numbered (subst (λ (z : Order). In z (map orderAt (from 0 1024))) (λ i. record { k = g i; l = h i; slots = s i }) (in-map orderAt (in-from 0 1024 n (omega arith))))
 
-orders-small : {o : Order} → In o orders → (o .k < 16) × (o .l < 16) × (o .slots ≤ 3)
+orders-small : {o : Order} → In o orders → Small (o .k) × Small (o .l) × (o .slots ≤ 3)
 orders-small {o} i =
     let (n, g, h, e) = from-made orderAt 0 1024 (subst (In o) (sym orders-numbered) i) in
-    (omega (arith, ap (λ (x : Order). x .k) e), omega (arith, ap (λ (x : Order). x .l) e), omega (arith, ap (λ (x : Order). x .slots) e))
+    ((n / 64, omega arith, ap (λ (x : Order). x .k) e), (n / 4 % 16, omega arith, ap (λ (x : Order). x .l) e), omega (arith, ap (λ (x : Order). x .slots) e))
 
 -- they are sorted, and so are those of them that changed
 numbered-sorted : (a b : ℕ) → a < b → before (a / 64 ∷ a / 4 % 16 ∷ a % 4 ∷ []) (b / 64 ∷ b / 4 % 16 ∷ b % 4 ∷ []) ≡ true
@@ -110,7 +115,7 @@ unfolding from
 from-sorted a zero = tt
 from-sorted a (suc n) = (
   λ p i. let (j, g, h, e) = from-made orderAt (1 + a) n i in
-      subst (λ (x : Order). before (a / 64 ∷ a / 4 % 16 ∷ a % 4 ∷ []) (x .k ∷ x .l ∷ x .slots ∷ []) ≡ true) (sym e) (numbered-sorted a j (omega arith)),
+      subst (λ (x : Order). before (a / 64 ∷ a / 4 % 16 ∷ a % 4 ∷ []) (sortKey x) ≡ true) (sym e) (numbered-sorted a j (omega arith)),
   from-sorted (1 + a) n,
 )
 
@@ -134,13 +139,17 @@ listed-exactly o = (
 )
 
 -- its fields read as the order
+scalar-read : (z : ℤ) → Small z → readScalar card (scalar z) ≡ some z
+scalar-read z (n, h, e) =
+    let large : 16 ≤ 16 ^ 132 = leb-true 16 (16 ^ 132) refl in
+    subst (λ (x : ℤ). readScalar card (scalar x) ≡ some x) (sym e) (read-whole 16 132 (omega arith) (omega arith) (pos n) (omega arith) (le-trans h large))
+
 pub order-read : (o : Order) → In o (changed orders) → readFields card (orderFields o) ≡ some o
 unfolding readFields
 order-read o i =
     let s = orders-small (changed-in orders i .0) in
-    let large : 16 ≤ 16 ^ 132 = leb-true 16 (16 ^ 132) refl in
     rw (
-      number-numeral 16 (omega arith) (omega arith) 132 (o .k) (omega arith) (le-trans (s .0) large),
-      number-numeral 16 (omega arith) (omega arith) 132 (o .l) (omega arith) (le-trans (s .1) large),
+      scalar-read (o .k) (s .0),
+      scalar-read (o .l) (s .1),
       number-numeral 10 (omega arith) (omega arith) 4 (o .slots) (omega arith) (omega (arith, s .2)),
     )

@@ -3,6 +3,7 @@ use mathlib.Core.Path.{_≡_, refl, sym, ap, _∙_}
 use mathlib.Core.List.{List, [], _∷_}
 use Prim.Native.Nat.{ℕ, zero, suc, _≤_}
 use native.Mathlib.Omega.{arith}
+use lib.IntN.{ℤ}
 use Rattle.sheet.specs.declared.Plan.{Plan}
 use Rattle.sheet.specs.declared.Plan.the-variants.{J, I}
 use Rattle.sheet.specs.Plan.{odds, slots}
@@ -15,7 +16,7 @@ use Rattle.changes.specs.Changed.{oldKey, oldPlan}
 use Rattle.changes.specs.Body.{oldCost}
 
 -- no more slots than the limit
-pub old-within : (k l limit : ℕ) → slots (oldPlan k l limit) ≤ limit
+pub old-within : (k l : ℤ) (limit : ℕ) → slots (oldPlan k l limit) ≤ limit
 unfolding oldPlan
 old-within k l limit = least-one (oldKey k l) (λ (p : Plan). slots p ≤ limit) (I 1 1) (within limit plans) (omega arith) (λ p o. within-in limit plans o .1)
 
@@ -32,11 +33,11 @@ within-few (suc (suc (suc zero))) h = refl
 within-few (suc (suc (suc (suc n)))) h = absurd (omega arith)
 
 -- the key of the cost where no doublings are counted
-abbrev pub oldCostKey : ℕ → ℕ → Plan → List ℕ
+abbrev pub oldCostKey : ℤ → ℤ → Plan → List ℕ
 oldCostKey k l p = keyOf (oldCost k l p)
 
 -- it orders the plans as the old key does
-pub old-few : (k l limit : ℕ) → limit ≤ 3 → least (oldCostKey k l) (I 1 1) (within limit few) ≡ oldPlan k l limit
+pub old-few : (k l : ℤ) (limit : ℕ) → limit ≤ 3 → least (oldCostKey k l) (I 1 1) (within limit few) ≡ oldPlan k l limit
 unfolding oldPlan oldKey before
 old-few k l limit h =
     least-ordered (oldCostKey k l) (oldKey k l) (λ p q. refl) (I 1 1) (within limit few)

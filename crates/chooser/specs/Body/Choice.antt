@@ -32,10 +32,10 @@ pub record Enough (limit n : ℕ) : Type 0 where
   pub none-left : within limit (drop n plans) ≡ []
 
 -- the calls for the sheet of a plan
-abbrev pub planAnswer : Limits → Plan → List ℕ → List ℕ → ℕ → Sheet
-planAnswer limits J k l room = jAnswer limits k l room
-planAnswer limits (I m1 m2) k l room = iAnswer limits k l m1 m2 room
+abbrev pub planAnswer : Limits → Plan → List ℕ → ℕ → List ℕ → ℕ → ℕ → Sheet
+planAnswer limits J k k-sign l l-sign room = jAnswer limits k k-sign l l-sign room
+planAnswer limits (I m1 m2) k k-sign l l-sign room = iAnswer limits k k-sign l l-sign m1 m2 room
 
-abbrev pub planBuffer : Limits → Plan → List ℕ → List ℕ → List ℕ → List ℕ
-planBuffer limits J k l buffer = jBuffer limits k l buffer
-planBuffer limits (I m1 m2) k l buffer = iBuffer limits k l m1 m2 buffer
+abbrev pub planBuffer : Limits → Plan → List ℕ → ℕ → List ℕ → ℕ → List ℕ → List ℕ
+planBuffer limits J k k-sign l l-sign buffer = jBuffer limits k k-sign l l-sign buffer
+planBuffer limits (I m1 m2) k k-sign l l-sign buffer = iBuffer limits k k-sign l l-sign m1 m2 buffer

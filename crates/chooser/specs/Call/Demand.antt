@@ -4,10 +4,12 @@ use mathlib.Core.Bool.{Bool, true, false, _&&_, cond}
 use mathlib.Core.List.{List}
 use Prim.Native.Nat.{ℕ, _<_, _^_}
 use native.Mathlib.Omega.{arith}
+use lib.IntN.{ℤ, pos, natAbs}
 use lib.ListN.{length, drop}
 use lib.Seq.{take-append-seam}
 use Rattle.digits.specs.Limits.{Limits, card}
-use Rattle.digits.specs.Scalar.{scalar, sized}
+use Rattle.digits.specs.Scalar.{Bytes, scalar, signedScalar, sized}
+use Rattle.digits.specs.Scalar.Signed.{signed-bounded}
 use Rattle.writer.specs.declared.answer.Sheet.{Sheet}
 use Rattle.writer.specs.declared.answer.Sheet.the-variants.{BadScalar, NoRoom, BadLimit}
 use Rattle.sheet.specs.Plan.{isLimit}
@@ -18,19 +20,21 @@ use Rattle.chooser.specs.declared.call.Choice.the-variants as Choices
 use Rattle.chooser.specs.Cheapest.{cheapestPlan, First, cheapest}
 use Rattle.chooser.specs.Call.{choiceNumber, choiceQuestion, choiceAnswer, ChoicePromised, cheapestQuestion, cheapestAnswer, cheapestBuffer, Cheapest, Promised}
 use Rattle.chooser.specs.Cheapest.Least.{first-plan}
+use Rattle.chooser.specs.Cheapest.Signs.{plan-unsigned}
 use Rattle.chooser.specs.Cheapest.Sheet.{additions-of, cheapest-plan, cheapest-digits, cheapest-is-least, cheapest-accepted, cheapest-within, cheapest-counted, cheapest-doubled}
 
 -- ── the plan ────────────────────────────────────────────────────────────────────────────────
 
--- whatever is asked, the answer keeps the promise, and its number is that of the first question missed
+-- whatever is asked, the answer keeps the promise for the scalars with any signs, and its number is that of the first question missed
 module _ (limits : Limits) (k l : List ℕ) (limit : ℕ) where
-  pub choice-promised : ChoicePromised (choiceAnswer limits k l limit) (scalar k) (scalar l) limit
+  pub choice-promised : (k-sign l-sign : ℕ) → ChoicePromised (choiceAnswer limits k l limit) (signedScalar k k-sign) (signedScalar l l-sign) limit
   unfolding choiceAnswer
-  choice-promised = go (sized limits k && sized limits l) (isLimit limit)
+  choice-promised k-sign l-sign = go (sized limits k && sized limits l) (isLimit limit)
     where
       go : (a b : Bool)
-          → ChoicePromised (cond a (cond b (Choices.Is (cheapestPlan (scalar k) (scalar l) limit)) Choices.BadLimit) Choices.BadScalar) (scalar k) (scalar l) limit
-      go true true = first-plan (scalar k) (scalar l) limit
+          → ChoicePromised (cond a (cond b (Choices.Is (cheapestPlan (pos (scalar k)) (pos (scalar l)) limit)) Choices.BadLimit) Choices.BadScalar) (signedScalar k k-sign) (signedScalar l l-sign) limit
+      go true true =
+          subst (First (signedScalar k k-sign) (signedScalar l l-sign) limit) (plan-unsigned k k-sign l l-sign limit) (first-plan (signedScalar k k-sign) (signedScalar l l-sign) limit)
       go true false = tt
       go false b = tt
 
@@ -39,7 +43,7 @@ module _ (limits : Limits) (k l : List ℕ) (limit : ℕ) where
   choice-question = go (sized limits k) (sized limits l) (isLimit limit)
     where
       go : (a b c : Bool)
-          → choiceNumber (cond (a && b) (cond c (Choices.Is (cheapestPlan (scalar k) (scalar l) limit)) Choices.BadLimit) Choices.BadScalar) ≡ cond a (cond b (cond c 0 4) 1) 1
+          → choiceNumber (cond (a && b) (cond c (Choices.Is (cheapestPlan (pos (scalar k)) (pos (scalar l)) limit)) Choices.BadLimit) Choices.BadScalar) ≡ cond a (cond b (cond c 0 4) 1) 1
       go true true true = refl
       go true true false = refl
       go true false c = refl
@@ -48,7 +52,7 @@ module _ (limits : Limits) (k l : List ℕ) (limit : ℕ) where
 -- ── its sheet ───────────────────────────────────────────────────────────────────────────────
 
 -- the cheapest sheet is what demand 3 asks for
-pub cheapest-sheet : (k l limit : ℕ) → k < 2 ^ 528 → l < 2 ^ 528
+pub cheapest-sheet : (k l : ℤ) (limit : ℕ) → natAbs k < 2 ^ 528 → natAbs l < 2 ^ 528
     → Cheapest (cheapest k l limit) k l limit (writtenAdditions (cheapestPlan k l limit) k l)
 cheapest-sheet k l limit hk hl =
     let e = additions-of k l limit hk hl in
@@ -64,36 +68,42 @@ cheapest-sheet k l limit hk hl =
       least = λ t a h. omega (arith, e, cheapest-is-least k l limit hk hl t a h);
     }
 
--- whatever is asked, the answer and the buffer keep the promise
-pub cheapest-promised : (k l : List ℕ) (limit : ℕ) (buffer : List ℕ)
-    → ((sized card k && sized card l) ≡ true → (scalar k < 2 ^ 528) × (scalar l < 2 ^ 528))
-    → Promised (cheapestAnswer card k l limit (length buffer)) (cheapestBuffer card k l limit buffer) (scalar k) (scalar l) limit
-unfolding cheapestAnswer cheapestBuffer cheapest
-cheapest-promised k l limit buffer bounds = go (sized card k && sized card l) (isLimit limit) (roomy card (length buffer)) bounds
-  where
-    answer : Bool → Bool → Bool → Sheet
-    answer a b c = cond a (cond b (cond c (wrote (cheapestPlan (scalar k) (scalar l) limit) k l) NoRoom) BadLimit) BadScalar
+module _ (k : List ℕ) (k-sign : ℕ) (l : List ℕ) (l-sign : ℕ) where
+  -- the two signed scalars, and the plan for them
+  abbrev x : ℤ
+  x = signedScalar k k-sign
 
-    go : (a b c : Bool) → (a ≡ true → (scalar k < 2 ^ 528) × (scalar l < 2 ^ 528))
-        → Promised (answer a b c) (left (answer a b c) (cheapest (scalar k) (scalar l) limit) buffer) (scalar k) (scalar l) limit
-    go false b c h = tt
-    go true false c h = tt
-    go true true false h = tt
-    go true true true h =
-        let bounded = h refl in
-        subst (λ (t : List ℕ). Cheapest t (scalar k) (scalar l) limit (writtenAdditions (cheapestPlan (scalar k) (scalar l) limit) (scalar k) (scalar l)))
-        (sym (take-append-seam (cheapest (scalar k) (scalar l) limit) (drop (length (cheapest (scalar k) (scalar l) limit)) buffer)))
-        (cheapest-sheet (scalar k) (scalar l) limit (bounded .0) (bounded .1))
+  abbrev y : ℤ
+  y = signedScalar l l-sign
 
--- the number of the answer is that of the first question missed
-pub cheapest-question : (limits : Limits) (k l : List ℕ) (limit room : ℕ) → number (cheapestAnswer limits k l limit room) ≡ cheapestQuestion limits k l limit room
-unfolding cheapestAnswer
-cheapest-question limits k l limit room = go (sized limits k) (sized limits l) (isLimit limit) (roomy limits room)
-  where
-    go : (a b c d : Bool)
-        → number (cond (a && b) (cond c (cond d (wrote (cheapestPlan (scalar k) (scalar l) limit) k l) NoRoom) BadLimit) BadScalar) ≡ cond a (cond b (cond c (cond d 0 3) 4) 1) 1
-    go true true true true = refl
-    go true true true false = refl
-    go true true false d = refl
-    go true false c d = refl
-    go false b c d = refl
+  answer : ℕ → Bool → Bool → Bool → Sheet
+  answer limit a b c = cond a (cond b (cond c (wrote (cheapestPlan x y limit) x y) NoRoom) BadLimit) BadScalar
+
+  -- whatever is asked, the answer and the buffer keep the promise
+  pub cheapest-promised : (limit : ℕ) (buffer : List ℕ) → Bytes k → Bytes l
+      → Promised (cheapestAnswer card k k-sign l l-sign limit (length buffer)) (cheapestBuffer card k k-sign l l-sign limit buffer) x y limit
+  unfolding cheapestAnswer cheapestBuffer cheapest answer
+  cheapest-promised limit buffer bk bl = go (sized card k) (sized card l) (isLimit limit) (roomy card (length buffer)) refl refl
+    where
+      go : (a b c d : Bool) → sized card k ≡ a → sized card l ≡ b
+          → Promised (answer limit (a && b) c d) (left (answer limit (a && b) c d) (cheapest x y limit) buffer) x y limit
+      go false b c d e f = tt
+      go true false c d e f = tt
+      go true true false d e f = tt
+      go true true true false e f = tt
+      go true true true true e f =
+          subst (λ (t : List ℕ). Cheapest t x y limit (writtenAdditions (cheapestPlan x y limit) x y))
+          (sym (take-append-seam (cheapest x y limit) (drop (length (cheapest x y limit)) buffer)))
+          (cheapest-sheet x y limit (signed-bounded k k-sign bk e) (signed-bounded l l-sign bl f))
+
+  -- the number of the answer is that of the first question missed
+  pub cheapest-question : (limits : Limits) (limit room : ℕ) → number (cheapestAnswer limits k k-sign l l-sign limit room) ≡ cheapestQuestion limits k l limit room
+  unfolding cheapestAnswer answer
+  cheapest-question limits limit room = go (sized limits k) (sized limits l) (isLimit limit) (roomy limits room)
+    where
+      go : (a b c d : Bool) → number (answer limit (a && b) c d) ≡ cond a (cond b (cond c (cond d 0 3) 4) 1) 1
+      go true true true true = refl
+      go true true true false = refl
+      go true true false d = refl
+      go true false c d = refl
+      go false b c d = refl

@@ -4,6 +4,7 @@ use mathlib.Core.Bool.{Bool, true, false, _&&_, cond}
 use mathlib.Core.List.{List}
 use Prim.Native.Nat.{ℕ}
 use native.Mathlib.Omega.{arith}
+use lib.IntN.{pos}
 use Rattle.digits.specs.Limits.{Limits}
 use Rattle.digits.specs.Scalar.{scalar, sized}
 use Rattle.sheet.specs.declared.Plan.{Plan}
@@ -25,7 +26,7 @@ module _ (limits : Limits) (k l : List ℕ) (limit : ℕ) where
   unfolding choiceAnswer
   scalars-missed e = go (sized limits k && sized limits l) (isLimit limit) e
     where
-      go : (a b : Bool) → cond a (cond b (Choices.Is (cheapestPlan (scalar k) (scalar l) limit)) Choices.BadLimit) Choices.BadScalar ≡ Choices.BadScalar → a ≡ false
+      go : (a b : Bool) → cond a (cond b (Choices.Is (cheapestPlan (pos (scalar k)) (pos (scalar l)) limit)) Choices.BadLimit) Choices.BadScalar ≡ Choices.BadScalar → a ≡ false
       go false b e = refl
       go true true e = absurd (omega (arith, ap choiceNumber e))
       go true false e = absurd (omega (arith, ap choiceNumber e))
@@ -34,19 +35,19 @@ module _ (limits : Limits) (k l : List ℕ) (limit : ℕ) where
   unfolding choiceAnswer
   limit-missed e = go (sized limits k && sized limits l) (isLimit limit) e
     where
-      go : (a b : Bool) → cond a (cond b (Choices.Is (cheapestPlan (scalar k) (scalar l) limit)) Choices.BadLimit) Choices.BadScalar ≡ Choices.BadLimit
+      go : (a b : Bool) → cond a (cond b (Choices.Is (cheapestPlan (pos (scalar k)) (pos (scalar l)) limit)) Choices.BadLimit) Choices.BadScalar ≡ Choices.BadLimit
           → (a ≡ true) × (b ≡ false)
       go false b e = absurd (omega (arith, ap choiceNumber e))
       go true true e = absurd (omega (arith, ap choiceNumber e))
       go true false e = (refl, refl)
 
   pub all-met : {p : Plan} → choiceAnswer limits k l limit ≡ Choices.Is p
-      → ((sized limits k && sized limits l) ≡ true) × ((isLimit limit ≡ true) × (p ≡ cheapestPlan (scalar k) (scalar l) limit))
+      → ((sized limits k && sized limits l) ≡ true) × ((isLimit limit ≡ true) × (p ≡ cheapestPlan (pos (scalar k)) (pos (scalar l)) limit))
   unfolding choiceAnswer planIn
   all-met {p} e = go (sized limits k && sized limits l) (isLimit limit) e
     where
-      go : (a b : Bool) → cond a (cond b (Choices.Is (cheapestPlan (scalar k) (scalar l) limit)) Choices.BadLimit) Choices.BadScalar ≡ Choices.Is p
-          → (a ≡ true) × ((b ≡ true) × (p ≡ cheapestPlan (scalar k) (scalar l) limit))
+      go : (a b : Bool) → cond a (cond b (Choices.Is (cheapestPlan (pos (scalar k)) (pos (scalar l)) limit)) Choices.BadLimit) Choices.BadScalar ≡ Choices.Is p
+          → (a ≡ true) × ((b ≡ true) × (p ≡ cheapestPlan (pos (scalar k)) (pos (scalar l)) limit))
       go false b e = absurd (omega (arith, ap choiceNumber e))
       go true false e = absurd (omega (arith, ap choiceNumber e))
       go true true e = (refl, (refl, sym (ap planIn e)))

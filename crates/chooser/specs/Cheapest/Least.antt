@@ -6,7 +6,7 @@ use mathlib.Core.List.{List}
 use Prim.Native.Nat.{ℕ, _≤_}
 use native.Mathlib.Omega.{arith}
 use lib.Dec.{T}
-use lib.IntN.{pos}
+use lib.IntN.{ℤ}
 use Rattle.digits.specs.Row.{value, isWindow}
 use Rattle.digits.specs.Two.{Column}
 use Rattle.forms.specs.Promise.{row-fewest, joint-fewest}
@@ -26,12 +26,12 @@ use Rattle.chooser.specs.Cheapest.Order.{sooner-exactly, key-only, order
 use Rattle.chooser.specs.Cheapest.Lists.{in-plans, joint-in-plans, in-within, within-in, plans-valid, isValid}
 
 -- the digits that 01 takes have the fewest non-zero ones of all that read k and l by the plan
-pub digits-fewest : (p : Plan) (k l : ℕ) (cs : List Column) → Valid p → Fits p cs → value (rowP cs) ≡ pos k → value (rowQ cs) ≡ pos l
+pub digits-fewest : (p : Plan) (k l : ℤ) (cs : List Column) → Valid p → Fits p cs → value (rowP cs) ≡ k → value (rowQ cs) ≡ l
     → weight p (digits p k l) ≤ weight p cs
 unfolding digits
-digits-fewest J k l cs v f e g = joint-fewest (pos k) (pos l) cs f e g
+digits-fewest J k l cs v f e g = joint-fewest k l cs f e g
 digits-fewest (I m1 m2) k l cs (forI v w) f e g =
-    omega (arith, paired-weight (row m1 (pos k)) (row m2 (pos l)), row-fewest m1 (pos k) (rowP cs) (window-positive v) (f .0) e, row-fewest m2 (pos l) (rowQ cs) (window-positive w) (f .1) g)
+    omega (arith, paired-weight (row m1 k) (row m2 l), row-fewest m1 k (rowP cs) (window-positive v) (f .0) e, row-fewest m2 l (rowQ cs) (window-positive w) (f .1) g)
 
 valid-of : (p : Plan) → T (isValid p) → Valid p
 valid-of J t = forJ
@@ -40,6 +40,10 @@ valid-of (I m1 m2) t = go (isWindow m1 && isWindow m2) refl t
     go : (b : Bool) → (isWindow m1 && isWindow m2) ≡ b → T b → Valid (I m1 m2)
     go true e u = windows-valid m1 m2 e
     go false e u = absurd u
+
+-- I 1, 1 is one
+pub smallest : Valid (I 1 1)
+smallest = valid-of (I 1 1) tt
 
 -- every valid plan is in the list
 pub valid-in : {p : Plan} → Valid p → In p plans
@@ -50,13 +54,13 @@ valid-in (forI v w) = in-plans v w
 pub within-valid : (limit : ℕ) {p : Plan} → In p (within limit plans) → Valid p
 within-valid limit {p} o = valid-of p (plans-valid (within-in limit plans o .0))
 
-module _ (k l limit : ℕ) where
+module _ (k l : ℤ) (limit : ℕ) where
   -- it is a plan of 01 within the limit
   pub plan-within : Valid (cheapestPlan k l limit) × (slots (cheapestPlan k l limit) ≤ limit)
   unfolding cheapestPlan
   plan-within =
       least-one (key k l) (λ (p : Plan). Valid p × (slots p ≤ limit)) (I 1 1) (within limit plans)
-      (valid-of (I 1 1) tt, omega arith) (λ p o. (within-valid limit o, within-in limit plans o .1))
+      (smallest, omega arith) (λ p o. (within-valid limit o, within-in limit plans o .1))
 
   -- no plan within the limit comes before it
   plan-first : (p : Plan) → Valid p → slots p ≤ limit → before (key k l p) (key k l (cheapestPlan k l limit)) ≡ false
@@ -68,7 +72,7 @@ module _ (k l limit : ℕ) where
   plan-least p v h = before-first _ _ _ _ (plan-first p v h)
 
 -- it comes before every other
-pub first-plan : (k l limit : ℕ) → First k l limit (cheapestPlan k l limit)
+pub first-plan : (k l : ℤ) (limit : ℕ) → First k l limit (cheapestPlan k l limit)
 first-plan k l limit =
     let v = plan-within k l limit in
     record { valid = v .0; within = v .1; before-all = λ q w h n. go q w h (order-total k l .one-first q (cheapestPlan k l limit) w (v .0) n) }
@@ -79,7 +83,7 @@ first-plan k l limit =
     go q w h (inr s) = s
 
 -- and it is the only one that does
-pub first-only : (k l limit : ℕ) (p : Plan) → First k l limit p → p ≡ cheapestPlan k l limit
+pub first-only : (k l : ℤ) (limit : ℕ) (p : Plan) → First k l limit p → p ≡ cheapestPlan k l limit
 first-only k l limit p f =
     let c = cheapestPlan k l limit in
     let w = plan-within k l limit in

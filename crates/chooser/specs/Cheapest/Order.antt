@@ -4,6 +4,7 @@ use mathlib.Core.Logic.{_≢_, _⊎_, inl, inr, _↔_}
 use mathlib.Core.Bool.{Bool, true, false}
 use mathlib.Core.List.{List, [], _∷_}
 use Prim.Native.Nat.{ℕ, _<_}
+use lib.IntN.{ℤ}
 use native.Mathlib.Omega.{arith}
 use lib.Dec.{T}
 use lib.ListN.{getD}
@@ -39,7 +40,7 @@ both-other J (I m1 m2) e h = absurd (omega arith)
 both-other (I m1 m2) J e h = absurd (omega arith)
 both-other (I m1 m2) (I n1 n2) e h = (λ f. omega (arith, ap rank f), λ f. omega (arith, ap rank f))
 
-module _ (k l : ℕ) where
+module _ (k l : ℤ) where
   -- p comes before q in words exactly where its key comes before that of q
   sooner-before : (p q : Plan) → Sooner k l p q → before (key k l p) (key k l q) ≡ true
   unfolding key
@@ -90,7 +91,7 @@ record Parts (p q : Plan) : Type 0 where
   rank-same : rank p ≡ rank q
   first-same : first p ≡ first q
 
-parts : (k l : ℕ) (p q : Plan) → key k l p ≡ key k l q → Parts p q
+parts : (k l : ℤ) (p q : Plan) → key k l p ≡ key k l q → Parts p q
 unfolding key
 parts k l p q e =
     record {
@@ -107,11 +108,11 @@ same-plan (forI {m1} {m2} v w) (forI {m1 = n1} {m2 = n2} x y) e =
     let slots-told : slots (I m1 m2) ≡ slots (I m1 n2) = e .slots-same ∙ ap (λ (a : ℕ). slots (I a n2)) (sym (e .first-same)) in
     ap₂ (λ (a b : ℕ). I a b) (e .first-same) (second-told m1 m2 n2 (omega (arith, v .odd)) (w .odd) (y .odd) slots-told)
 
-pub key-only : (k l : ℕ) (p q : Plan) → Valid p → Valid q → key k l p ≡ key k l q → p ≡ q
+pub key-only : (k l : ℤ) (p q : Plan) → Valid p → Valid q → key k l p ≡ key k l q → p ≡ q
 key-only k l p q v w e = same-plan v w (parts k l p q e)
 
 -- of two plans one comes first
-one-first : (k l : ℕ) (p q : Plan) → Valid p → Valid q → p ≢ q → Sooner k l p q ⊎ Sooner k l q p
+one-first : (k l : ℤ) (p q : Plan) → Valid p → Valid q → p ≢ q → Sooner k l p q ⊎ Sooner k l q p
 one-first k l p q v w n = go (before (key k l p) (key k l q)) (before (key k l q) (key k l p)) refl refl
   where
     go : (s t : Bool) → before (key k l p) (key k l q) ≡ s → before (key k l q) (key k l p) ≡ t → Sooner k l p q ⊎ Sooner k l q p
@@ -120,7 +121,7 @@ one-first k l p q v w n = go (before (key k l p) (key k l q)) (before (key k l q
     go false false e f = absurd (n (key-only k l p q v w (before-same (key k l p) (key k l q) e f)))
 
 -- the order is total on the plans of 01
-pub order-total : (k l : ℕ) → Total k l
+pub order-total : (k l : ℤ) → Total k l
 order-total k l =
     record {
       never-itself = λ p s. subst T (sym (sooner-before k l p p s) ∙ before-self (key k l p)) tt;

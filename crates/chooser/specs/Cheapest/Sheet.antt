@@ -4,6 +4,7 @@ use mathlib.Core.Path.{_≡_, sym, ap, subst}
 use mathlib.Core.List.{List}
 use Prim.Native.Nat.{ℕ, _^_, _≤_, _<_}
 use native.Mathlib.Omega.{arith}
+use lib.IntN.{ℤ, natAbs}
 use Rattle.digits.specs.Limits.{card}
 use Rattle.sheet.specs.Answer.{Accepted, heading, sheetSlots, sheetAdditions}
 use Rattle.sheet.specs.Promise.{accepted-exactly, accepted-states, accepted-rows}
@@ -26,57 +27,57 @@ windows-valid h w = go (h .kind) w
     go t (forI a b) = Valids.forI a b
 
 -- the plan of an accepted sheet is one of 01's
-accepted-valid : (s : List ℕ) (k l : ℕ) → Accepted card s k l → Valid (plan (heading (lines card s)))
+accepted-valid : (s : List ℕ) (k l : ℤ) → Accepted card s k l → Valid (plan (heading (lines card s)))
 unfolding sheetLines
 accepted-valid s k l a =
     let b = accepted-exactly card s k l .0 a in
     subst (λ (h : Header). Valid (plan h)) (sym (ap heading (b .laid))) (windows-valid (b .head) (b .windows))
 
 -- the additions of the cheapest sheet are those of its plan
-pub additions-of : (k l limit : ℕ) → k < 2 ^ 528 → l < 2 ^ 528 → sheetAdditions card (cheapest k l limit) ≡ writtenAdditions (cheapestPlan k l limit) k l
+pub additions-of : (k l : ℤ) (limit : ℕ) → natAbs k < 2 ^ 528 → natAbs l < 2 ^ 528 → sheetAdditions card (cheapest k l limit) ≡ writtenAdditions (cheapestPlan k l limit) k l
 unfolding cheapest
 additions-of k l limit hk hl = written-counted (cheapestPlan k l limit) k l (plan-within k l limit .0) hk hl
 
 -- every sheet anybody could write that is accepted for k and l within the limit has at least as many additions
-pub cheapest-is-least : (k l limit : ℕ) → k < 2 ^ 528 → l < 2 ^ 528 → (s : List ℕ) → Accepted card s k l → sheetSlots card s ≤ limit
+pub cheapest-is-least : (k l : ℤ) (limit : ℕ) → natAbs k < 2 ^ 528 → natAbs l < 2 ^ 528 → (s : List ℕ) → Accepted card s k l → sheetSlots card s ≤ limit
     → sheetAdditions card (cheapest k l limit) ≤ sheetAdditions card s
 unfolding sheetSlots
 cheapest-is-least k l limit hk hl s a h =
     let r = accepted-rows card s k l a in
     let v = accepted-valid s k l a in
-    omega (arith, additions-of k l limit hk hl, plan-least k l limit (plan (heading (lines card s))) v h, written-cost (plan (heading (lines card s))) k l v hk hl, digits-fewest (plan (heading (lines card s))) k l (columns (lines card s)) v (r .fits) (r .reads-k) (r .reads-l), r .costs)
+    omega (arith, additions-of k l limit hk hl, plan-least k l limit (plan (heading (lines card s))) v h, written-cost (plan (heading (lines card s))) k l v, digits-fewest (plan (heading (lines card s))) k l (columns (lines card s)) v (r .fits) (r .reads-k) (r .reads-l), r .costs)
 
 -- it is accepted for k and l
-pub cheapest-accepted : (k l limit : ℕ) → k < 2 ^ 528 → l < 2 ^ 528 → Accepted card (cheapest k l limit) k l
+pub cheapest-accepted : (k l : ℤ) (limit : ℕ) → natAbs k < 2 ^ 528 → natAbs l < 2 ^ 528 → Accepted card (cheapest k l limit) k l
 unfolding cheapest
 cheapest-accepted k l limit hk hl = written-accepted (cheapestPlan k l limit) k l (plan-within k l limit .0) hk hl
 
 -- it keeps the limit
-pub cheapest-within : (k l limit : ℕ) → k < 2 ^ 528 → l < 2 ^ 528 → sheetSlots card (cheapest k l limit) ≤ limit
+pub cheapest-within : (k l : ℤ) (limit : ℕ) → natAbs k < 2 ^ 528 → natAbs l < 2 ^ 528 → sheetSlots card (cheapest k l limit) ≤ limit
 unfolding cheapest
 cheapest-within k l limit hk hl =
     let v = plan-within k l limit in
     omega (arith, written-slots (cheapestPlan k l limit) k l (v .0) hk hl, v .1)
 
 -- its header counts the additions of its lines, table additions included
-pub cheapest-counted : (k l limit : ℕ) → k < 2 ^ 528 → l < 2 ^ 528
+pub cheapest-counted : (k l : ℤ) (limit : ℕ) → natAbs k < 2 ^ 528 → natAbs l < 2 ^ 528
     → heading (lines card (cheapest k l limit)) .additions ≡ sheetAdditions card (cheapest k l limit)
 cheapest-counted k l limit hk hl = accepted-states card (cheapest k l limit) k l (cheapest-accepted k l limit hk hl) .1
 
 -- its header counts the doublings by which its plan is compared
-pub cheapest-doubled : (k l limit : ℕ) → k < 2 ^ 528 → l < 2 ^ 528
+pub cheapest-doubled : (k l : ℤ) (limit : ℕ) → natAbs k < 2 ^ 528 → natAbs l < 2 ^ 528
     → heading (lines card (cheapest k l limit)) .doublings ≡ writtenDoublings (cheapestPlan k l limit) k l
 unfolding cheapest
 cheapest-doubled k l limit hk hl = written-doubled (cheapestPlan k l limit) k l (plan-within k l limit .0) hk hl
 
 -- its digits are 01's row or joint form of the cheapest plan
-pub cheapest-digits : (k l limit : ℕ) → k < 2 ^ 528 → l < 2 ^ 528 → columns (lines card (cheapest k l limit)) ≡ digits (cheapestPlan k l limit) k l
+pub cheapest-digits : (k l : ℤ) (limit : ℕ) → natAbs k < 2 ^ 528 → natAbs l < 2 ^ 528 → columns (lines card (cheapest k l limit)) ≡ digits (cheapestPlan k l limit) k l
 unfolding cheapest
 cheapest-digits k l limit hk hl =
     let v = plan-within k l limit .0 in
     rw (written-lines (cheapestPlan k l limit) k l v hk hl) (written-columns (cheapestPlan k l limit) k l v)
 
 -- its plan is the cheapest plan
-pub cheapest-plan : (k l limit : ℕ) → k < 2 ^ 528 → l < 2 ^ 528 → plan (heading (lines card (cheapest k l limit))) ≡ cheapestPlan k l limit
+pub cheapest-plan : (k l : ℤ) (limit : ℕ) → natAbs k < 2 ^ 528 → natAbs l < 2 ^ 528 → plan (heading (lines card (cheapest k l limit))) ≡ cheapestPlan k l limit
 unfolding cheapest
 cheapest-plan k l limit hk hl = written-plan (cheapestPlan k l limit) k l (plan-within k l limit .0) hk hl

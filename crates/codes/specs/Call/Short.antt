@@ -19,10 +19,10 @@ if-short met NoRoom n h = h
 if-short true (Written m w) n h = h
 if-short false (Written m w) n h = omega arith
 
-pub codes-short : (limits : Limits) (s t : List ℕ) (places places′ room room′ : ℕ) → Bytes s → Bytes t
-    → Short (8 * limits .bytes + 1) (codesAnswer limits s t places places′ room room′)
+pub codes-short : (limits : Limits) (s : List ℕ) (s-sign : ℕ) (t : List ℕ) (t-sign : ℕ) (places places′ room room′ : ℕ) → Bytes s → Bytes t
+    → Short (8 * limits .bytes + 1) (codesAnswer limits s s-sign t t-sign places places′ room room′)
 unfolding codesAnswer
-codes-short limits s t places places′ room room′ s-bytes t-bytes =
+codes-short limits s s-sign t t-sign places places′ room room′ s-bytes t-bytes =
     let longer : ℕ = max (length s) (length t) in
-    if-short (roomy longer room && roomy longer room′) (jointAnswer limits s t places places′) (8 * limits .bytes + 1)
-    (joint-short limits s t places places′ s-bytes t-bytes)
+    if-short (roomy longer room && roomy longer room′) (jointAnswer limits s s-sign t t-sign places places′) (8 * limits .bytes + 1)
+    (joint-short limits s s-sign t t-sign places places′ s-bytes t-bytes)

@@ -5,13 +5,13 @@ use mathlib.Core.Bool.{Bool, true, false, _&&_, cond}
 use mathlib.Core.List.{List}
 use Prim.Native.Nat.{ℕ, _-_, max}
 use native.Mathlib.Omega.{arith}
-use lib.IntN.{ℤ, pos}
+use lib.IntN.{ℤ}
 use lib.ListN.{length, getD}
 use Rattle.digits.specs.Buffer.{rowBelow}
 use Rattle.digits.specs.Buffer.Read.{column-row}
 use Rattle.digits.specs.Buffer.Zeros.{padded-at}
 use Rattle.digits.specs.Limits.{Limits}
-use Rattle.digits.specs.Scalar.{scalar, sized}
+use Rattle.digits.specs.Scalar.{signedScalar, sized}
 use Rattle.digits.specs.Two.{Column, Two, P, Q, other, of}
 use Rattle.forms.specs.Codes.{digits, remainderAt, codes}
 use Rattle.forms.specs.Joint.{joint}
@@ -44,10 +44,10 @@ same e f h =
       follows = λ r i. rw (e r, f r i) (h .follows r i);
     }
 
-module _ (limits : Limits) (s t : List ℕ) where
+module _ (limits : Limits) (s : List ℕ) (s-sign : ℕ) (t : List ℕ) (t-sign : ℕ) where
   -- the number of the answer is that of the first question missed
   pub codes-question : (places places′ room room′ : ℕ)
-      → number (codesAnswer limits s t places places′ room room′) ≡ codesQuestion limits s t places places′ room room′
+      → number (codesAnswer limits s s-sign t t-sign places places′ room room′) ≡ codesQuestion limits s t places places′ room room′
   unfolding codesAnswer jointAnswer
   codes-question places places′ room room′ =
       go (sized limits s) (sized limits t) (roomy longer places) (roomy longer places′) (roomy longer room) (roomy longer room′)
@@ -56,7 +56,7 @@ module _ (limits : Limits) (s t : List ℕ) where
       longer = max (length s) (length t)
 
       cs : List Column
-      cs = joint (pos (scalar s)) (pos (scalar t))
+      cs = joint (signedScalar s s-sign) (signedScalar t t-sign)
 
       go : (a b c d e f : Bool)
           → number (ifRoomy (e && f) (cond (a && b) (cond (c && d) (wroteColumns cs) NoRoom) BadScalar)) ≡ cond a (cond b (cond c (cond d (cond e (cond f 0 3) 3) 3) 3) 1) 1
@@ -70,13 +70,13 @@ module _ (limits : Limits) (s t : List ℕ) where
 
   module _ (k l kc lc : List ℕ) where
     abbrev answer : Recoded
-    answer = codesAnswer limits s t (length k) (length l) (length kc) (length lc)
+    answer = codesAnswer limits s s-sign t t-sign (length k) (length l) (length kc) (length lc)
 
     -- where it writes, a joint call with the same digit buffers answers the same, and leaves the same rows
     pub codes-joint : (n w : ℕ) → answer ≡ Written n w
-        → (jointAnswer limits s t (length k) (length l) ≡ Written n w) × ((r : Two) → codesDigits limits r s t k l kc lc ≡ jointBuffer limits r s t k l)
+        → (jointAnswer limits s s-sign t t-sign (length k) (length l) ≡ Written n w) × ((r : Two) → codesDigits limits r s s-sign t t-sign k l kc lc ≡ jointBuffer limits r s s-sign t t-sign k l)
     unfolding codesAnswer codesDigits jointBuffer
-    codes-joint n w e = (f, λ r. ap (λ (a : Recoded). left a (digitsOf r s t) (of k l r)) (e ∙ sym f))
+    codes-joint n w e = (f, λ r. ap (λ (a : Recoded). left a (digitsOf r s s-sign t t-sign) (of k l r)) (e ∙ sym f))
       where
         if-written : (met : Bool) (a : Recoded) → ifRoomy met a ≡ Written n w → a ≡ Written n w
         if-written met BadScalar e = e
@@ -85,44 +85,44 @@ module _ (limits : Limits) (s t : List ℕ) where
         if-written true (Written m v) e = e
         if-written false (Written m v) e = absurd (omega (arith, ap number e))
 
-        f : jointAnswer limits s t (length k) (length l) ≡ Written n w
-        f = if-written (roomy (max (length s) (length t)) (length kc) && roomy (max (length s) (length t)) (length lc)) (jointAnswer limits s t (length k) (length l)) e
+        f : jointAnswer limits s s-sign t t-sign (length k) (length l) ≡ Written n w
+        f = if-written (roomy (max (length s) (length t)) (length kc) && roomy (max (length s) (length t)) (length lc)) (jointAnswer limits s s-sign t t-sign (length k) (length l)) e
 
     -- the length is that of the joint form, and the buffers are filled
     codes-filled : (n w : ℕ) → answer ≡ Written n w
-        → (n ≡ length (joint (pos (scalar s)) (pos (scalar t))))
-        × ((r : Two) → (codesDigits limits r s t k l kc lc ≡ filled (digitsOf r s t) (of k l r)) × (codesBuffer limits r s t k l kc lc ≡ coded (codesOf r s t) (of kc lc r)))
+        → (n ≡ length (joint (signedScalar s s-sign) (signedScalar t t-sign)))
+        × ((r : Two) → (codesDigits limits r s s-sign t t-sign k l kc lc ≡ filled (digitsOf r s s-sign t t-sign) (of k l r)) × (codesBuffer limits r s s-sign t t-sign k l kc lc ≡ coded (codesOf r s s-sign t t-sign) (of kc lc r)))
     unfolding codesDigits codesBuffer
     codes-filled n w e =
-        let a : ℤ = pos (scalar s) in
-        let b : ℤ = pos (scalar t) in (
-          joint-only limits s t k l n w (joint a b) (joint-keeps a b) (joint-top a b) (joint-value a b .0) (joint-value a b .1) (codes-joint n w e .0) .0 .0,
-          λ r. (ap (λ (x : Recoded). left x (digitsOf r s t) (of k l r)) e, ap (λ (x : Recoded). leftCodes x (codesOf r s t) (of kc lc r)) e),
+        let a : ℤ = signedScalar s s-sign in
+        let b : ℤ = signedScalar t t-sign in (
+          joint-only limits s s-sign t t-sign k l n w (joint a b) (joint-keeps a b) (joint-top a b) (joint-value a b .0) (joint-value a b .1) (codes-joint n w e .0) .0 .0,
+          λ r. (ap (λ (x : Recoded). left x (digitsOf r s s-sign t t-sign) (of k l r)) e, ap (λ (x : Recoded). leftCodes x (codesOf r s s-sign t t-sign) (of kc lc r)) e),
         )
 
     codes-stand : (n w : ℕ) → answer ≡ Written n w
-        → CodesOf (pos (scalar s)) (pos (scalar t)) (λ r. rowBelow n (of (codesDigits limits P s t k l kc lc) (codesDigits limits Q s t k l kc lc) r))
-        (of (codesBuffer limits P s t k l kc lc) (codesBuffer limits Q s t k l kc lc))
-    codes-stand n w e = same (rows _ (row P, row Q)) (rows _ (code P, code Q)) (codes-are (pos (scalar s)) (pos (scalar t)))
+        → CodesOf (signedScalar s s-sign) (signedScalar t t-sign) (λ r. rowBelow n (of (codesDigits limits P s s-sign t t-sign k l kc lc) (codesDigits limits Q s s-sign t t-sign k l kc lc) r))
+        (of (codesBuffer limits P s s-sign t t-sign k l kc lc) (codesBuffer limits Q s s-sign t t-sign k l kc lc))
+    codes-stand n w e = same (rows _ (row P, row Q)) (rows _ (code P, code Q)) (codes-are (signedScalar s s-sign) (signedScalar t t-sign))
       where
-        row : (r : Two) → rowBelow n (codesDigits limits r s t k l kc lc) ≡ digitsOf r s t
-        row r = ap₂ rowBelow (codes-filled n w e .0) (codes-filled n w e .1 r .0) ∙ column-row r _ (joint-small (pos (scalar s)) (pos (scalar t)))
+        row : (r : Two) → rowBelow n (codesDigits limits r s s-sign t t-sign k l kc lc) ≡ digitsOf r s s-sign t t-sign
+        row r = ap₂ rowBelow (codes-filled n w e .0) (codes-filled n w e .1 r .0) ∙ column-row r _ (joint-small (signedScalar s s-sign) (signedScalar t t-sign))
 
-        code : (r : Two) (i : ℕ) → getD (codesBuffer limits r s t k l kc lc) i 0 ≡ getD (codesOf r s t) i 0
-        code r i = rw (codes-filled n w e .1 r .1) (padded-at (codesOf r s t) (length (of kc lc r) - length (codesOf r s t)) i)
+        code : (r : Two) (i : ℕ) → getD (codesBuffer limits r s s-sign t t-sign k l kc lc) i 0 ≡ getD (codesOf r s s-sign t t-sign) i 0
+        code r i = rw (codes-filled n w e .1 r .1) (padded-at (codesOf r s s-sign t t-sign) (length (of kc lc r) - length (codesOf r s s-sign t t-sign)) i)
 
     -- the answer and the buffers keep the promise
     pub codes-promised :
-        CodesPromised (scalar s) (scalar t) answer
-        (codesDigits limits P s t k l kc lc) (codesDigits limits Q s t k l kc lc) (codesBuffer limits P s t k l kc lc) (codesBuffer limits Q s t k l kc lc)
+        CodesPromised (signedScalar s s-sign) (signedScalar t t-sign) answer
+        (codesDigits limits P s s-sign t t-sign k l kc lc) (codesDigits limits Q s s-sign t t-sign k l kc lc) (codesBuffer limits P s s-sign t t-sign k l kc lc) (codesBuffer limits Q s s-sign t t-sign k l kc lc)
     codes-promised = go answer refl
       where
         go : (a : Recoded) → answer ≡ a
-            → CodesPromised (scalar s) (scalar t) a
-            (codesDigits limits P s t k l kc lc) (codesDigits limits Q s t k l kc lc) (codesBuffer limits P s t k l kc lc) (codesBuffer limits Q s t k l kc lc)
+            → CodesPromised (signedScalar s s-sign) (signedScalar t t-sign) a
+            (codesDigits limits P s s-sign t t-sign k l kc lc) (codesDigits limits Q s s-sign t t-sign k l kc lc) (codesBuffer limits P s s-sign t t-sign k l kc lc) (codesBuffer limits Q s s-sign t t-sign k l kc lc)
         go BadScalar e = tt
         go BadWindow e = tt
         go NoRoom e = tt
         go (Written n w) e =
             let (f, g) = codes-joint n w e in
-            (rw (g P, g Q) (joint-written limits s t k l n w f), codes-stand n w e)
+            (rw (g P, g Q) (joint-written limits s s-sign t t-sign k l n w f), codes-stand n w e)

@@ -1,10 +1,11 @@
--- The digit of a byte, and that the byte of a digit is read back as the digit. Assumes nothing.
+-- The digit of a byte, that the byte of a digit is read back as the digit, and the byte of a negated digit. Assumes nothing.
 use mathlib.Core.Path.{_≡_, ap, _∙_}
 use Prim.Native.Nat.{ℕ, suc, _-_, _%_, _≤_, _<_}
 use native.Mathlib.Omega.{arith}
-use lib.IntN.{ℤ, pos, negsuc, natAbs}
+use lib.IntN.{ℤ, pos, negsuc, negℤ, natAbs}
 use borrow.Author.Tests.{lt-ltb, le-ltb}
-use Rattle.digits.specs.Byte.{byteOf, signed}
+use Rattle.digits.specs.Byte.{byteOf, turned, signed}
+use Rattle.digits.specs.Integer.Sign.{rem-negated}
 
 pub signed-plain : (b : ℕ) → b < 128 → signed b ≡ pos b
 signed-plain b h = rw (lt-ltb b 128 h)
@@ -22,3 +23,8 @@ signed-byte (negsuc n) h =
     let e : n % 256 ≡ n = omega arith in
     let f : 255 - (256 - suc n) ≡ n = omega arith in
     ap (λ (m : ℕ). signed (256 - suc m)) e ∙ signed-minus (256 - suc n) (omega arith) ∙ ap negsuc f
+
+-- a negated digit has the turned byte
+pub byte-negated : (d : ℤ) → byteOf (negℤ d) ≡ turned (byteOf d)
+unfolding byteOf
+byte-negated d = rem-negated d 256 (omega arith)

@@ -9,6 +9,7 @@ use lib.Dec.{T}
 use lib.IntN.{ℤ, pos, negsuc, _+ℤ_, negℤ, natAbs}
 use Rattle.digits.specs.Integer.{up, down}
 use Rattle.digits.specs.Integer.Parts.{integers, sum, negation, size, one-side}
+use Rattle.digits.specs.Integer.Sign.{negated-size}
 use Rattle.digits.specs.Row.{value}
 use Rattle.digits.specs.Row.Parts.{plus, minus, value-parts}
 use Rattle.digits.specs.Column.{Kind, counted, row, weight, Small, empty, more}
@@ -72,9 +73,6 @@ pay-one x false p = counted-le x
 
 zero-size : (z : ℤ) → natAbs z ≤ 0 → z ≡ pos 0
 zero-size z h = omega (integers, size z)
-
-neg-size : (z : ℤ) → natAbs (negℤ z) ≡ natAbs z
-neg-size z = omega (arith, size z, size (negℤ z), negation z)
 
 sum-size : (a b : ℤ) → natAbs (a +ℤ b) ≤ natAbs a + natAbs b
 sum-size a b = omega (arith, sum a b, size a, size b, size (a +ℤ b), one-side (a +ℤ b))
@@ -193,7 +191,7 @@ module _ (K : Kind) where
       a r = negℤ (e r)
 
       m : Digits a
-      m r = omega (arith, s r, neg-size (e r))
+      m r = omega (arith, s r, negated-size (e r))
 
   -- taking off the lowest place: e + 2 (p − n) has at least the columns of p − n
   pub drop : {p n : K .Row → ℕ} {w : ℕ} (e : K .Row → ℤ) → Digits e → Has (λ r. up (e r) + 2 * p r) (λ r. down (e r) + 2 * n r) w → Has p n w
@@ -227,7 +225,7 @@ module _ (K : Kind) where
       a r = negℤ (K .digit c r)
 
       at : (r : K .Row) → Carry (u r) (a r) (kept (u r) (a r)) (carried (u r) (a r))
-      at r = carry (u r) (a r) (s r) (omega (arith, v r, neg-size (K .digit c r)))
+      at r = carry (u r) (a r) (s r) (omega (arith, v r, negated-size (K .digit c r)))
 
       reads : (r : K .Row) → plus (row K r cs) + (n r + down (carried (u r) (a r))) ≡ minus (row K r cs) + (p r + up (carried (u r) (a r)))
       reads r = omega (arith, eq r, at r, negation (K .digit c r), size (kept (u r) (a r)))

@@ -4,10 +4,10 @@ use mathlib.Core.Logic.{_≢_, _⊎_, inl, inr}
 use Prim.Native.Nat.{ℕ, zero, suc, _+_, _*_, _-_, _^_, _≤_, _<_}
 use native.Mathlib.Nat.{mul-add, mul-zero, mul-suc, mul-assoc, pow-succ'}
 use native.Mathlib.Omega.{arith}
-use lib.IntN.{ℤ, natAbs}
+use lib.IntN.{ℤ, negℤ, natAbs}
 use lib.Pow.{pow-add}
 use Rattle.digits.specs.Integer.{up, down, quo, rem}
-use Rattle.digits.specs.Integer.Parts.{division, integers, size}
+use Rattle.digits.specs.Integer.Parts.{division, integers, size, negation}
 
 -- r and s differ by a multiple of M: r + M b = s + M a
 pub record Congruent (M : ℕ) (r s : ℤ) : Type 0 where
@@ -31,6 +31,10 @@ joined {M} h l =
       b = h .b + l .b;
       parts = omega (arith, h .parts, l .parts, mul-add M (h .a) (l .a), mul-add M (h .b) (l .b));
     }
+
+-- and to the negated numbers
+pub negated : {M : ℕ} {r s : ℤ} → Congruent M r s → Congruent M (negℤ r) (negℤ s)
+negated {M} {r} {s} h = record { a = h .b; b = h .a; parts = omega (arith, h .parts, negation r, negation s) }
 
 -- and to each divisor of M
 pub coarser : (M N : ℕ) {r s : ℤ} → Congruent (M * N) r s → Congruent M r s

@@ -1,10 +1,10 @@
--- The joint sparse form of two natural numbers has at most one column more than the longer of them has bits: from the
+-- The joint sparse form of two numbers has at most one column more than the longer of them has bits: from the
 -- rule of its columns.
 use mathlib.Core.List.{List}
 use Prim.Native.Nat.{ℕ, zero, suc, _+_, _/_, _^_, _≤_, _<_, max}
 use native.Mathlib.Nat.{pow-suc}
 use native.Mathlib.Omega.{arith}
-use lib.IntN.{ℤ, pos, natAbs}
+use lib.IntN.{ℤ, natAbs}
 use lib.ListN.{length}
 use lib.Pow.{pow-mono}
 use Rattle.digits.specs.Integer.Parts.{integers, size}
@@ -49,7 +49,7 @@ rule-length (place {k = k} {l = l} {k′ = a} {l′ = b} n e f s) (suc m) p q =
     omega (arith, rule-length s m h g)
 
 -- at most one column more than the longer number has bits
-pub joint-length : (k l : ℕ) → length (joint (pos k) (pos l)) ≤ max (bitLength k) (bitLength l) + 1
+pub joint-length : (k l : ℤ) → length (joint k l) ≤ max (bitLength (natAbs k)) (bitLength (natAbs l)) + 1
 joint-length k l =
-    let b : ℕ = max (bitLength k) (bitLength l) in
-    omega (arith, rule-length (joint-rule (pos k) (pos l)) b (bits k b (omega arith)) (bits l b (omega arith)))
+    let b : ℕ = max (bitLength (natAbs k)) (bitLength (natAbs l)) in
+    omega (arith, rule-length (joint-rule k l) b (bits (natAbs k) b (omega arith)) (bits (natAbs l) b (omega arith)))

@@ -1,4 +1,5 @@
--- A row has at most one place more than the scalar has bits. Along the row's rule: a number up to 2^(b+1) leaves one up to 2^b.
+-- A row has at most one place more than the scalar has bits. Along the row's rule: a natural number up to 2^(b+1) leaves one up to 2^b,
+-- and a negated number's row is as long.
 use mathlib.Core.Path.{_≡_, refl}
 use mathlib.Core.Logic.{inl, inr}
 use mathlib.Core.Bool.{Bool, true, false, not}
@@ -9,7 +10,7 @@ use native.Mathlib.Omega.{arith}
 use lib.Dec.{T, leb, leb→le, nleb→lt}
 use lib.Pow.{pow-mono}
 use lib.ListN.{length}
-use lib.IntN.{ℤ, pos, _+ℤ_, _-ℤ_}
+use lib.IntN.{ℤ, pos, _+ℤ_, _-ℤ_, natAbs}
 use Rattle.digits.specs.Integer.{up, down}
 use Rattle.digits.specs.Integer.Parts.{integers, one-side, size}
 use Rattle.digits.specs.Integer.Congruent.{Congruent, power-split, turned, joined, Apart, congruent-apart}
@@ -19,6 +20,7 @@ use Rattle.forms.specs.Row.{DigitRule, RowRule, end, place, row}
 use Rattle.forms.specs.Row.OddDigit.{OddDigit, Cases, digit-cases, halves, rest-multiple, rest-apart, falls}
 use Rattle.forms.specs.Row.Only.{row-meets}
 use Rattle.forms.specs.Row.Natural.{rest-natural}
+use Rattle.forms.specs.Row.Negated.{row-size}
 
 -- 2^b is a multiple of each lower power of two
 power-multiple : (j b : ℕ) → j ≤ b → Congruent (2 ^ j) (pos (2 ^ b)) (pos 0)
@@ -65,5 +67,7 @@ rule-length (suc b) h z l (place {c = c} {c′ = c′} {d = d} n r t s) =
     omega (arith, rule-length b h (rest-natural c d c′ t h z r) (rest-half c d c′ t h z b l r) s)
 
 -- a row has at most one place more than the scalar has bits
-pub row-length : (m n : ℕ) → 1 ≤ m → length (row m (pos n)) ≤ bitLength n + 1
-row-length m n h = omega (arith, rule-length (bitLength n) h refl (omega (arith, below-length n)) (row-meets m (pos n) h))
+pub row-length : (m : ℕ) (c : ℤ) → 1 ≤ m → length (row m c) ≤ bitLength (natAbs c) + 1
+row-length m c h =
+    let n : ℕ = natAbs c in
+    omega (arith, row-size m c h, rule-length (bitLength n) h refl (omega (arith, below-length n)) (row-meets m (pos n) h))

@@ -7,7 +7,6 @@ use Prim.Native.Nat.{ℕ, zero, suc, _+_, _≤_}
 use native.Mathlib.Omega.{arith}
 use borrow.Author.Tests.{leb-true}
 use lib.Dec.{eqb, leb, ltb}
-use lib.IntN.{pos}
 use lib.ListN.{length}
 use Rattle.digits.specs.Limits.{Limits}
 use Rattle.sheet.specs.declared.Plan.{Plan}
@@ -130,7 +129,7 @@ module _ (m : ℕ) where
 
   result-within : (h : Header) (ls : List Line) → 1 ≤ m → Within m (wrong h ls)
   unfolding wrong
-  result-within h ls g = unless-within (samePoint (result ls) (point (pos (h .k)) (pos (h .l)))) 1 g
+  result-within h ls g = unless-within (samePoint (result ls) (point (h .k) (h .l))) 1 g
 
   ask-within : (q : ℕ) (x : Option ℕ) (next : Answer) → Within m x → line (judgement next) ≤ m → line (judgement (ask q x next)) ≤ m
   ask-within q none next h g = g

@@ -4,11 +4,13 @@ use mathlib.Core.Bool.{Bool, true, _&&_, cond}
 use mathlib.Core.List.{List}
 use Prim.Native.Nat.{ℕ, _+_, _*_}
 use native.Mathlib.Omega.{arith}
+use lib.IntN.{ℤ}
 use Rattle.digits.specs.Limits.{card}
 use Rattle.digits.specs.Missed.{either-way}
 use Rattle.digits.specs.Row.{isWindow}
-use Rattle.digits.specs.Scalar.{Bytes, scalar, sized}
-use Rattle.digits.specs.Scalar.Sized.{both, bounded}
+use Rattle.digits.specs.Scalar.{Bytes, signedScalar, sized}
+use Rattle.digits.specs.Scalar.Signed.{signed-bounded}
+use Rattle.digits.specs.Scalar.Sized.{both}
 use Rattle.recode.specs.Call.{rowAnswer, jointAnswer}
 use Rattle.recode.specs.Call.Short.{Short, row-short, joint-short}
 use Rattle.recode.specs.declared.answer.Recoded.{Recoded}
@@ -34,54 +36,58 @@ use Rattle.host.specs.Told.{RecodedFits, SheetFits}
 short-fits : {r : Recoded} → Short (8 * card .bytes + 1) r → RecodedFits r
 short-fits h = record { length-fits = omega (arith, h .length-most); count-fits = omega (arith, h .length-most, h .weight-most) }
 
-pub row-fits : (s : List ℕ) (m places : ℕ) → Bytes s → RecodedFits (rowAnswer card s m places)
-row-fits s m places h = short-fits (row-short card s m places h)
+pub row-fits : (s : List ℕ) (sign m places : ℕ) → Bytes s → RecodedFits (rowAnswer card s sign m places)
+row-fits s sign m places h = short-fits (row-short card s sign m places h)
 
-pub joint-fits : (k l : List ℕ) (places places′ : ℕ) → Bytes k → Bytes l → RecodedFits (jointAnswer card k l places places′)
-joint-fits k l places places′ h g = short-fits (joint-short card k l places places′ h g)
+pub joint-fits : (k : List ℕ) (k-sign : ℕ) (l : List ℕ) (l-sign : ℕ) (places places′ : ℕ) → Bytes k → Bytes l → RecodedFits (jointAnswer card k k-sign l l-sign places places′)
+joint-fits k k-sign l l-sign places places′ h g = short-fits (joint-short card k k-sign l l-sign places places′ h g)
 
-pub codes-fits : (k l : List ℕ) (places places′ room room′ : ℕ) → Bytes k → Bytes l → RecodedFits (codesAnswer card k l places places′ room room′)
-codes-fits k l places places′ room room′ h g = short-fits (codes-short card k l places places′ room room′ h g)
+pub codes-fits : (k : List ℕ) (k-sign : ℕ) (l : List ℕ) (l-sign : ℕ) (places places′ room room′ : ℕ) → Bytes k → Bytes l → RecodedFits (codesAnswer card k k-sign l l-sign places places′ room room′)
+codes-fits k k-sign l l-sign places places′ room room′ h g = short-fits (codes-short card k k-sign l l-sign places places′ room room′ h g)
 
 -- ── sheets ──────────────────────────────────────────────────────────────────────────────────
 
-module _ (k l : List ℕ) where
-  -- the answer where only the room is left to ask for
-  abbrev asked : Plan → ℕ → Sheet
-  asked p room = cond (Writing.roomy card room) (wrote p k l) NoRoom
+-- the answer where only the room is left to ask for
+abbrev asked : ℤ → ℤ → Plan → ℕ → Sheet
+asked k l p room = cond (Writing.roomy card room) (wrote p k l) NoRoom
 
-module _ (k l : List ℕ) (k-bytes : Bytes k) (l-bytes : Bytes l) where
-  asked-fits : {p : Plan} (room : ℕ) → Valid p → (sized card k && sized card l) ≡ true → SheetFits (asked k l p room)
+module _ (k : List ℕ) (k-sign : ℕ) (l : List ℕ) (l-sign : ℕ) (k-bytes : Bytes k) (l-bytes : Bytes l) where
+  -- the two signed scalars
+  abbrev x : ℤ
+  x = signedScalar k k-sign
+
+  abbrev y : ℤ
+  y = signedScalar l l-sign
+
+  asked-fits : {p : Plan} (room : ℕ) → Valid p → (sized card k && sized card l) ≡ true → SheetFits (asked x y p room)
   asked-fits {p} room v e =
       let (a, b) = both (sized card k) (sized card l) e in
-      either-way SheetFits (Writing.roomy card room) (wrote p k l) NoRoom
-      (λ _.
-      record {
-        length-fits = omega (arith, written-fits p (scalar k) (scalar l) v (bounded k k-bytes a) (bounded l l-bytes b));
-        count-fits = omega (arith, written-few p (scalar k) (scalar l) v (bounded k k-bytes a) (bounded l l-bytes b));
-      })
+      let hk = signed-bounded k k-sign k-bytes a in
+      let hl = signed-bounded l l-sign l-bytes b in
+      either-way SheetFits (Writing.roomy card room) (wrote p x y) NoRoom
+      (λ _. record { length-fits = omega (arith, written-fits p x y v hk hl); count-fits = omega (arith, written-few p x y v hk hl) })
       (omega arith)
 
   -- plan J
-  pub j-fits : (room : ℕ) → SheetFits (jAnswer card k l room)
+  pub j-fits : (room : ℕ) → SheetFits (jAnswer card k k-sign l l-sign room)
   unfolding jAnswer
   j-fits room =
-      either-way SheetFits (sized card k && sized card l) (asked k l J room) BadScalar (λ e. asked-fits room forJ e) (omega arith)
+      either-way SheetFits (sized card k && sized card l) (asked x y J room) BadScalar (λ e. asked-fits room forJ e) (omega arith)
 
   -- plan I
-  pub i-fits : (m1 m2 room : ℕ) → SheetFits (iAnswer card k l m1 m2 room)
+  pub i-fits : (m1 m2 room : ℕ) → SheetFits (iAnswer card k k-sign l l-sign m1 m2 room)
   unfolding iAnswer
   i-fits m1 m2 room =
       let windows : Bool = isWindow m1 && isWindow m2 in
-      let answer : Sheet = asked k l (I m1 m2) room in
+      let answer : Sheet = asked x y (I m1 m2) room in
       either-way SheetFits (sized card k && sized card l) (cond windows answer BadWindow) BadScalar
       (λ e. either-way SheetFits windows answer BadWindow (λ w. asked-fits room (windows-valid m1 m2 w) e) (omega arith)) (omega arith)
 
   -- the cheapest
-  pub cheapest-fits : (limit room : ℕ) → SheetFits (cheapestAnswer card k l limit room)
+  pub cheapest-fits : (limit room : ℕ) → SheetFits (cheapestAnswer card k k-sign l l-sign limit room)
   unfolding cheapestAnswer
   cheapest-fits limit room =
-      let answer : Sheet = asked k l (cheapestPlan (scalar k) (scalar l) limit) room in
+      let answer : Sheet = asked x y (cheapestPlan x y limit) room in
       either-way SheetFits (sized card k && sized card l) (cond (isLimit limit) answer BadLimit) BadScalar
       (λ e. either-way SheetFits (isLimit limit) answer BadLimit
-      (λ _. asked-fits room (plan-within (scalar k) (scalar l) limit .0) e) (omega arith)) (omega arith)
+      (λ _. asked-fits room (plan-within x y limit .0) e) (omega arith)) (omega arith)

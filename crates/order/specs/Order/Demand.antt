@@ -2,21 +2,21 @@
 -- promise of the cheapest sheet.
 use mathlib.Core.Path.{_≡_, refl, sym, ap, subst, _∙_}
 use mathlib.Core.Bool.{Bool, true, false, cond}
-use mathlib.Core.List.{List, [], _++_}
+use mathlib.Core.List.{List, []}
 use mathlib.Core.Option.{Option, none, some}
 use Prim.Native.Nat.{ℕ, _^_, _<_}
 use native.Mathlib.Omega.{arith}
 use lib.Dec.{eqb}
+use lib.IntN.{ℤ, natAbs}
 use lib.ListN.{length, getD, drop}
 use lib.Seq.{take-append-seam}
 use Rattle.digits.specs.Limits.{card}
-use Rattle.sheet.specs.Answer.{Answer, accepted, refused, answer, Accepted}
+use Rattle.sheet.specs.Answer.{accepted, refused, answer, Accepted}
 use Rattle.sheet.specs.Numeral.{numeralIn, numeral}
-use Rattle.sheet.specs.Numeral.Below.{number-below}
 use Rattle.sheet.specs.Plan.{isLimit}
 use Rattle.sheet.specs.Samples.{computed}
+use Rattle.sheet.specs.Spelling.Whole.{whole-below}
 use Rattle.sheet.specs.Spelling.{comma, cut, readScalar, readDecimal, _>>=_}
-use Rattle.writer.specs.Call.{roomy}
 use Rattle.chooser.specs.Call.{Cheapest}
 use Rattle.chooser.specs.Call.Demand.{cheapest-sheet}
 use Rattle.chooser.specs.Cheapest.{cheapestPlan, cheapest}
@@ -25,25 +25,26 @@ use Rattle.order.specs.Order.{Order, lineOf, readFields, readOrder, refu
 
 -- ── an order's scalars are the card's ───────────────────────────────────────────────────────
 
-abbrev Below : Option ℕ → Type 0
-Below a = (n : ℕ) → a ≡ some n → n < 2 ^ 528
+abbrev Below : Option ℤ → Type 0
+Below a = (z : ℤ) → a ≡ some z → natAbs z < 2 ^ 528
 
-ordered-below : (a b c : Option ℕ) (three : Bool) (o : Order) → Below a → Below b
+ordered-below : (a b : Option ℤ) (c : Option ℕ) (three : Bool) (o : Order) → Below a → Below b
     → (a >>= λ k. b >>= λ l. c >>= λ slots. cond three (some (record { k = k; l = l; slots = slots })) none) ≡ some o
-    → (o .k < 2 ^ 528) × (o .l < 2 ^ 528)
+    → (natAbs (o .k) < 2 ^ 528) × (natAbs (o .l) < 2 ^ 528)
 ordered-below (some k) (some l) (some slots) true o p q e =
-    (subst (λ (n : ℕ). n < 2 ^ 528) (cc) (p k refl), subst (λ (n : ℕ). n < 2 ^ 528) (cc) (q l refl))
+    let same : record { k = k; l = l; slots = slots } ≡ o = cc in
+    (subst (λ (x : Order). natAbs (x .k) < 2 ^ 528) same (p k refl), subst (λ (x : Order). natAbs (x .l) < 2 ^ 528) same (q l refl))
 ordered-below (some k) (some l) (some slots) false o p q e = let z : _≡_ {A = ℕ} 0 1 = cc in absurd (omega arith)
 ordered-below (some k) (some l) none three o p q e = let z : _≡_ {A = ℕ} 0 1 = cc in absurd (omega arith)
 ordered-below (some k) none c three o p q e = let z : _≡_ {A = ℕ} 0 1 = cc in absurd (omega arith)
 ordered-below none b c three o p q e = let z : _≡_ {A = ℕ} 0 1 = cc in absurd (omega arith)
 
-order-below : (s : List ℕ) (o : Order) → readOrder card s ≡ some o → (o .k < 2 ^ 528) × (o .l < 2 ^ 528)
+order-below : (s : List ℕ) (o : Order) → readOrder card s ≡ some o → (natAbs (o .k) < 2 ^ 528) × (natAbs (o .l) < 2 ^ 528)
 unfolding readOrder readFields
 order-below s o e =
     let fs = cut comma (lineOf s) in
     ordered-below (readScalar card (getD fs 0 [])) (readScalar card (getD fs 1 [])) (readDecimal (getD fs 2 [])) (eqb (length fs) 3) o
-    (λ n. number-below 16 132 n (getD fs 0 []) (omega arith)) (λ n. number-below 16 132 n (getD fs 1 []) (omega arith)) e
+    (whole-below 16 132 (omega arith) (omega arith) (getD fs 0 [])) (whole-below 16 132 (omega arith) (omega arith) (getD fs 1 [])) e
 
 -- ── a refusal is no sheet, and no other refusal ─────────────────────────────────────────────
 
@@ -55,7 +56,7 @@ other-refusal : refusal 6 ≡ refusal 4 → ⊥
 unfolding numeralIn numeral
 other-refusal e = omega (arith, ap (λ (t : List ℕ). getD t 2 0) e)
 
-no-sheet : (text : List ℕ) (k l : ℕ) → answer card text ≡ refused 6 1 → Accepted card text k l → ⊥
+no-sheet : (text : List ℕ) (k l : ℤ) → answer card text ≡ refused 6 1 → Accepted card text k l → ⊥
 no-sheet text k l e a = let f : refused 6 1 ≡ accepted = sym e ∙ a .met in let z : _≡_ {A = ℕ} 0 1 = cc in omega arith
 
 -- ── what is printed ─────────────────────────────────────────────────────────────────────────

@@ -1,4 +1,4 @@
--- An order has at most 271 bytes: the program may stop reading behind them.
+-- An order has at most 273 bytes: the program may stop reading behind them.
 use mathlib.Core.Path.{_≡_, refl, sym, ap, _∙_}
 use mathlib.Core.Logic.{_⊎_, inl, inr}
 use mathlib.Core.Bool.{Bool, true, false, cond}
@@ -7,12 +7,14 @@ use mathlib.Core.Option.{Option, none, some}
 use Prim.Native.Nat.{ℕ, suc, _+_, _≤_, _<_}
 use native.Mathlib.Decide.{decLt}
 use native.Mathlib.Omega.{arith}
-use borrow.Author.Tests.{le-leb, lt-leb, ne-eqb}
+use borrow.Author.Tests.{ne-eqb}
 use lib.Dec.{eqb}
+use lib.IntN.{ℤ}
 use lib.ListN.{length, getD}
 use Rattle.digits.specs.Limits.{card}
 use Rattle.sheet.specs.Spelling.Cut.{cut-some}
 use Rattle.sheet.specs.Numeral.{number}
+use Rattle.sheet.specs.Spelling.Whole.{number-long, whole-long}
 use Rattle.sheet.specs.Spelling.{lineFeed, comma, push, cut, readScalar, readDecimal, _>>=_}
 use Rattle.order.specs.Order.{Order, onlyLine, lineIn, lineOf, readFields, readOrder, refusal, answered, printed}
 
@@ -43,11 +45,6 @@ line-long (s ∷ [] ∷ []) n e = inl (omega arith)
 line-long (s ∷ [] ∷ t ∷ ts) n e = inr refl
 line-long (s ∷ (c ∷ t) ∷ ts) n e = inr refl
 
--- a field of too many figures is no number
-too-long : (base most : ℕ) (f : List ℕ) → most < length f → number base most f ≡ none
-unfolding number
-too-long base most f h = rw (le-leb 1 (length f) (omega arith), lt-leb (length f) most h)
-
 three-total : (fs : List (List ℕ)) → length fs ≡ 3 → total fs ≡ 3 + length (getD fs 0 []) + length (getD fs 1 []) + length (getD fs 2 [])
 unfolding total
 three-total [] e = absurd (omega arith)
@@ -60,20 +57,20 @@ none-after : {A B : Type 0} (o : Option A) (f : A → Option B) → ((a : A) →
 none-after none f h = refl
 none-after (some a) f h = h a
 
--- fields of 272 bytes and more are no order
-fields-long : (fs : List (List ℕ)) → 272 ≤ total fs → readFields card fs ≡ none
+-- fields of 274 bytes and more are no order
+fields-long : (fs : List (List ℕ)) → 274 ≤ total fs → readFields card fs ≡ none
 unfolding readFields
-fields-long fs h = go (decLt 132 (length (getD fs 0 []))) (decLt 132 (length (getD fs 1 []))) (decLt 4 (length (getD fs 2 [])))
+fields-long fs h = go (decLt 133 (length (getD fs 0 []))) (decLt 133 (length (getD fs 1 []))) (decLt 4 (length (getD fs 2 [])))
   where
-    rest : Option ℕ → Option ℕ → Bool → ℕ → Option Order
+    rest : Option ℤ → Option ℕ → Bool → ℤ → Option Order
     rest b c three k = b >>= λ l. c >>= λ slots. cond three (some (record { k = k; l = l; slots = slots })) none
 
-    go : Dec (132 < length (getD fs 0 [])) → Dec (132 < length (getD fs 1 [])) → Dec (4 < length (getD fs 2 []))
+    go : Dec (133 < length (getD fs 0 [])) → Dec (133 < length (getD fs 1 [])) → Dec (4 < length (getD fs 2 []))
         → (readScalar card (getD fs 0 []) >>= rest (readScalar card (getD fs 1 [])) (readDecimal (getD fs 2 [])) (eqb (length fs) 3)) ≡ none
-    go (yes a) b c = rw (too-long 16 132 (getD fs 0 []) a)
-    go (no a) (yes b) c = none-after (readScalar card (getD fs 0 [])) _ (λ k. rw (too-long 16 132 (getD fs 1 []) b))
+    go (yes a) b c = rw (whole-long 16 132 (getD fs 0 []) a)
+    go (no a) (yes b) c = none-after (readScalar card (getD fs 0 [])) _ (λ k. rw (whole-long 16 132 (getD fs 1 []) b))
     go (no a) (no b) (yes c) =
-        none-after (readScalar card (getD fs 0 [])) _ (λ k. none-after (readScalar card (getD fs 1 [])) _ (λ l. rw (too-long 10 4 (getD fs 2 []) c)))
+        none-after (readScalar card (getD fs 0 [])) _ (λ k. none-after (readScalar card (getD fs 1 [])) _ (λ l. rw (number-long 10 4 (getD fs 2 []) c)))
     go (no a) (no b) (no c) =
         let few : eqb (length fs) 3 ≡ false = ne-eqb (length fs) 3 (λ e. omega (arith, three-total fs e)) in
         none-after (readScalar card (getD fs 0 [])) _
@@ -83,8 +80,8 @@ no-fields : readFields card (cut comma []) ≡ none
 unfolding readFields cut number
 no-fields = refl
 
--- 272 bytes and more are no order: so are the first 272 of them, and both are answered alike
-pub long-order : (s : List ℕ) → 272 ≤ length s → printed card s ≡ refusal 6
+-- 274 bytes and more are no order: so are the first 274 of them, and both are answered alike
+pub long-order : (s : List ℕ) → 274 ≤ length s → printed card s ≡ refusal 6
 unfolding printed readOrder lineOf
 long-order s h = ap answered (go (line-long (cut lineFeed s) (length s) (parts-total lineFeed s)))
   where

@@ -4,11 +4,11 @@ use mathlib.Core.Bool.{true, false, _&&_}
 use mathlib.Core.List.{List}
 use Prim.Native.Nat.{ℕ, _+_, _*_, _≤_, _<_, max}
 use borrow.Author.Tests.{le-leb, lt-leb}
-use lib.IntN.{ℤ, pos}
+use lib.IntN.{ℤ}
 use lib.ListN.{length}
 use Rattle.digits.specs.Column as Columns
 use Rattle.digits.specs.Limits.{Limits}
-use Rattle.digits.specs.Scalar.{scalar, sized}
+use Rattle.digits.specs.Scalar.{signedScalar, sized}
 use Rattle.digits.specs.Two.{Two, P, Q, two}
 use Rattle.forms.specs.Joint.{joint}
 use Rattle.recode.specs.declared.answer.Recoded.{Recoded}
@@ -17,46 +17,46 @@ use Rattle.recode.specs.Call.{number, wroteColumns, jointQuestion, joint
 use Rattle.recode.specs.Call.Standing.{joint-question, joint-promised}
 
 -- one row of the joint form of two scalars
-abbrev pub digitsOf : Two → List ℕ → List ℕ → List ℤ
-digitsOf r s t = Columns.row two r (joint (pos (scalar s)) (pos (scalar t)))
+abbrev pub digitsOf : Two → List ℕ → ℕ → List ℕ → ℕ → List ℤ
+digitsOf r s s-sign t t-sign = Columns.row two r (joint (signedScalar s s-sign) (signedScalar t t-sign))
 
-module _ (limits : Limits) (s t k l : List ℕ) where
+module _ (limits : Limits) (s : List ℕ) (s-sign : ℕ) (t : List ℕ) (t-sign : ℕ) (k l : List ℕ) where
   -- the contract of a call whose answer is a and that leaves k′ and l′
   abbrev pub Returned : Recoded → List ℕ → List ℕ → Type 0
   Returned a k′ l′ =
-      (a ≡ jointAnswer limits s t (length k) (length l))
-      × ((k′ ≡ jointBuffer limits P s t k l)
-      × ((l′ ≡ jointBuffer limits Q s t k l)
-      × (JointPromised (scalar s) (scalar t) a k′ l′ × (number a ≡ jointQuestion limits s t (length k) (length l)))))
+      (a ≡ jointAnswer limits s s-sign t t-sign (length k) (length l))
+      × ((k′ ≡ jointBuffer limits P s s-sign t t-sign k l)
+      × ((l′ ≡ jointBuffer limits Q s s-sign t t-sign k l)
+      × (JointPromised (signedScalar s s-sign) (signedScalar t t-sign) a k′ l′ × (number a ≡ jointQuestion limits s t (length k) (length l)))))
 
-  returned : (a : Recoded) → jointAnswer limits s t (length k) (length l) ≡ a → Returned a (left a (digitsOf P s t) k) (left a (digitsOf Q s t) l)
+  returned : (a : Recoded) → jointAnswer limits s s-sign t t-sign (length k) (length l) ≡ a → Returned a (left a (digitsOf P s s-sign t t-sign) k) (left a (digitsOf Q s s-sign t t-sign) l)
   unfolding jointBuffer
   returned a e =
-      subst (λ (x : Recoded). Returned x (left x (digitsOf P s t) k) (left x (digitsOf Q s t) l)) e
-      (refl, (refl, (refl, (joint-promised limits s t k l, joint-question limits s t (length k) (length l)))))
+      subst (λ (x : Recoded). Returned x (left x (digitsOf P s s-sign t t-sign) k) (left x (digitsOf Q s s-sign t t-sign) l)) e
+      (refl, (refl, (refl, (joint-promised limits s s-sign t t-sign k l, joint-question limits s s-sign t t-sign (length k) (length l)))))
 
-module _ (limits : Limits) (s t k l : List ℕ) where
-  pub bad-scalar : (sized limits s && sized limits t) ≡ false → Returned limits s t k l BadScalar k l
+module _ (limits : Limits) (s : List ℕ) (s-sign : ℕ) (t : List ℕ) (t-sign : ℕ) (k l : List ℕ) where
+  pub bad-scalar : (sized limits s && sized limits t) ≡ false → Returned limits s s-sign t t-sign k l BadScalar k l
   unfolding jointAnswer
-  bad-scalar e = returned limits s t k l BadScalar (rw e)
+  bad-scalar e = returned limits s s-sign t t-sign k l BadScalar (rw e)
 
   module _ (sizes : (sized limits s && sized limits t) ≡ true) where
-    pub no-first : length k < 8 * max (length s) (length t) + 1 → Returned limits s t k l NoRoom k l
+    pub no-first : length k < 8 * max (length s) (length t) + 1 → Returned limits s s-sign t t-sign k l NoRoom k l
     unfolding jointAnswer
     no-first h =
-        returned limits s t k l NoRoom (rw (sizes, lt-leb (8 * max (length s) (length t) + 1) (length k) h))
+        returned limits s s-sign t t-sign k l NoRoom (rw (sizes, lt-leb (8 * max (length s) (length t) + 1) (length k) h))
 
     module _ (room : 8 * max (length s) (length t) + 1 ≤ length k) where
-      pub no-second : length l < 8 * max (length s) (length t) + 1 → Returned limits s t k l NoRoom k l
+      pub no-second : length l < 8 * max (length s) (length t) + 1 → Returned limits s s-sign t t-sign k l NoRoom k l
       unfolding jointAnswer
       no-second h =
-          returned limits s t k l NoRoom
+          returned limits s s-sign t t-sign k l NoRoom
           (rw (sizes, le-leb (8 * max (length s) (length t) + 1) (length k) room, lt-leb (8 * max (length s) (length t) + 1) (length l) h))
 
-      pub written : (a : Recoded) (k′ l′ : List ℕ) → 8 * max (length s) (length t) + 1 ≤ length l → a ≡ wroteColumns (joint (pos (scalar s)) (pos (scalar t)))
-          → k′ ≡ filled (digitsOf P s t) k → l′ ≡ filled (digitsOf Q s t) l → Returned limits s t k l a k′ l′
+      pub written : (a : Recoded) (k′ l′ : List ℕ) → 8 * max (length s) (length t) + 1 ≤ length l → a ≡ wroteColumns (joint (signedScalar s s-sign) (signedScalar t t-sign))
+          → k′ ≡ filled (digitsOf P s s-sign t t-sign) k → l′ ≡ filled (digitsOf Q s s-sign t t-sign) l → Returned limits s s-sign t t-sign k l a k′ l′
       unfolding jointAnswer
       written a k′ l′ h e f g =
           rw (e, f, g)
-          (returned limits s t k l (wroteColumns (joint (pos (scalar s)) (pos (scalar t))))
+          (returned limits s s-sign t t-sign k l (wroteColumns (joint (signedScalar s s-sign) (signedScalar t t-sign)))
           (rw (sizes, le-leb (8 * max (length s) (length t) + 1) (length k) room, le-leb (8 * max (length s) (length t) + 1) (length l) h)))

@@ -1,10 +1,9 @@
 -- How long and how heavy what a call writes can be, whatever was asked: 8 places for each byte of the longest scalar and one more.
-use mathlib.Core.Path.{_≡_}
+use mathlib.Core.Path.{_≡_, ap}
 use mathlib.Core.Bool.{Bool, true, _&&_, cond}
 use mathlib.Core.List.{List}
 use Prim.Native.Nat.{ℕ, _+_, _*_, _≤_, max}
 use native.Mathlib.Omega.{arith}
-use lib.IntN.{pos}
 use lib.ListN.{length}
 use Rattle.digits.specs.Column.Weight as Columns
 use Rattle.digits.specs.Limits.{Limits}
@@ -12,7 +11,8 @@ use Rattle.digits.specs.Missed.{either-way}
 use Rattle.digits.specs.Row.{isWindow}
 use Rattle.digits.specs.Row.Weight as Rows
 use Rattle.digits.specs.Row.Window.{window-parts}
-use Rattle.digits.specs.Scalar.{Bytes, scalar, sized}
+use Rattle.digits.specs.Scalar.{Bytes, signedScalar, sized, bitLength}
+use Rattle.digits.specs.Scalar.Signed.{scalar-size}
 use Rattle.digits.specs.Scalar.Sized.{both, some-bytes}
 use Rattle.digits.specs.Scalar.Value.{length-bytes}
 use Rattle.digits.specs.Two.{two}
@@ -32,29 +32,31 @@ module _ (limits : Limits) where
   abbrev most : ℕ
   most = 8 * limits .bytes + 1
 
-  row-places : (s : List ℕ) (m : ℕ) → Bytes s → sized limits s ≡ true → isWindow m ≡ true → length (row m (pos (scalar s))) ≤ most
-  row-places s m bytes e w =
+  row-places : (s : List ℕ) (sign m : ℕ) → Bytes s → sized limits s ≡ true → isWindow m ≡ true → length (row m (signedScalar s sign)) ≤ most
+  row-places s sign m bytes e w =
       let (odd, within) = window-parts m w in
-      omega (arith, row-length m (scalar s) (omega arith), length-bytes s bytes, some-bytes limits s e .1)
+      omega (arith, row-length m (signedScalar s sign) (omega arith), ap bitLength (scalar-size s sign), length-bytes s bytes, some-bytes limits s e .1)
 
   -- a row
-  pub row-short : (s : List ℕ) (m places : ℕ) → Bytes s → Short most (rowAnswer limits s m places)
+  pub row-short : (s : List ℕ) (sign m places : ℕ) → Bytes s → Short most (rowAnswer limits s sign m places)
   unfolding rowAnswer
-  row-short s m places bytes =
-      let written : Recoded = wroteRow (row m (pos (scalar s))) in
+  row-short s sign m places bytes =
+      let written : Recoded = wroteRow (row m (signedScalar s sign)) in
       let room : Bool = roomy (length s) places in
       let asked : Recoded = cond room written NoRoom in
       either-way (Short most) (sized limits s) (cond (isWindow m) asked BadWindow) BadScalar
       (λ e. either-way (Short most) (isWindow m) asked BadWindow
       (λ w. either-way (Short most) room written NoRoom
-      (λ _. record { length-most = row-places s m bytes e w; weight-most = Rows.weight-most (row m (pos (scalar s))) }) (omega arith)) (omega arith)) (omega arith)
+      (λ _. record { length-most = row-places s sign m bytes e w; weight-most = Rows.weight-most (row m (signedScalar s sign)) }) (omega arith)) (omega arith)) (omega arith)
 
-  joint-places : (s t : List ℕ) → Bytes s → Bytes t → (sized limits s && sized limits t) ≡ true → length (joint (pos (scalar s)) (pos (scalar t))) ≤ most
-  joint-places s t s-bytes t-bytes e =
+  joint-places : (s : List ℕ) (s-sign : ℕ) (t : List ℕ) (t-sign : ℕ) → Bytes s → Bytes t → (sized limits s && sized limits t) ≡ true → length (joint (signedScalar s s-sign) (signedScalar t t-sign)) ≤ most
+  joint-places s s-sign t t-sign s-bytes t-bytes e =
       let (a, b) = both (sized limits s) (sized limits t) e in
       omega (
         arith,
-        joint-length (scalar s) (scalar t),
+        joint-length (signedScalar s s-sign) (signedScalar t t-sign),
+        ap bitLength (scalar-size s s-sign),
+        ap bitLength (scalar-size t t-sign),
         length-bytes s s-bytes,
         length-bytes t t-bytes,
         some-bytes limits s a .1,
@@ -62,12 +64,12 @@ module _ (limits : Limits) where
       )
 
   -- a joint form
-  pub joint-short : (s t : List ℕ) (places places′ : ℕ) → Bytes s → Bytes t → Short most (jointAnswer limits s t places places′)
+  pub joint-short : (s : List ℕ) (s-sign : ℕ) (t : List ℕ) (t-sign : ℕ) (places places′ : ℕ) → Bytes s → Bytes t → Short most (jointAnswer limits s s-sign t t-sign places places′)
   unfolding jointAnswer
-  joint-short s t places places′ s-bytes t-bytes =
+  joint-short s s-sign t t-sign places places′ s-bytes t-bytes =
       let longer : ℕ = max (length s) (length t) in
       let room : Bool = roomy longer places && roomy longer places′ in
-      let written : Recoded = wroteColumns (joint (pos (scalar s)) (pos (scalar t))) in
+      let written : Recoded = wroteColumns (joint (signedScalar s s-sign) (signedScalar t t-sign)) in
       either-way (Short most) (sized limits s && sized limits t) (cond room written NoRoom) BadScalar
       (λ e. either-way (Short most) room written NoRoom
-      (λ _. record { length-most = joint-places s t s-bytes t-bytes e; weight-most = Columns.weight-most two (joint (pos (scalar s)) (pos (scalar t))) }) (omega arith)) (omega arith)
+      (λ _. record { length-most = joint-places s s-sign t t-sign s-bytes t-bytes e; weight-most = Columns.weight-most two (joint (signedScalar s s-sign) (signedScalar t t-sign)) }) (omega arith)) (omega arith)

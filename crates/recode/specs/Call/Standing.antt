@@ -6,14 +6,14 @@ use mathlib.Core.List.{List}
 use Prim.Native.Nat.{ℕ, _≤_, max}
 use native.Mathlib.Omega.{arith}
 use lib.ListN.{length}
-use lib.IntN.{ℤ, pos}
+use lib.IntN.{ℤ}
 use Rattle.digits.specs.Buffer.{rowBelow}
 use Rattle.digits.specs.Buffer.Read.{row-read, columns-read}
 use Rattle.digits.specs.Column as Columns
 use Rattle.digits.specs.Limits.{Limits}
 use Rattle.digits.specs.Row.{isWindow, value, weight}
 use Rattle.digits.specs.Row.Window.{window-parts}
-use Rattle.digits.specs.Scalar.{scalar, sized}
+use Rattle.digits.specs.Scalar.{signedScalar, sized}
 use Rattle.digits.specs.Two.{Column, P, Q, two}
 use Rattle.forms.specs.Joint.{Keeps, Topped, joint}
 use Rattle.forms.specs.Joint.Value.{joint-small}
@@ -43,75 +43,75 @@ use Rattle.recode.specs.Call.{
 }
 
 -- what is promised, of 01's row and of the joint form
-row-is : (m c : ℕ) → 1 ≤ m → RowOf m c (weight (row m (pos c))) (row m (pos c))
+row-is : (m : ℕ) (c : ℤ) → 1 ≤ m → RowOf m c (weight (row m c)) (row m c)
 row-is m c h =
     record {
-      rule = row-meets m (pos c) h;
-      digits = row-digits m (pos c) h;
-      reads = row-value m (pos c) h;
-      top = row-top m (pos c) h;
+      rule = row-meets m c h;
+      digits = row-digits m c h;
+      reads = row-value m c h;
+      top = row-top m c h;
       short = row-length m c h;
       counted = refl;
-      fewest = λ es. row-fewest m (pos c) es h;
+      fewest = λ es. row-fewest m c es h;
     }
 
-row-stands : (m c : ℕ) (buffer : List ℕ) → isWindow m ≡ true → RowOf m c (weight (row m (pos c))) (rowBelow (length (row m (pos c))) (filled (row m (pos c)) buffer))
+row-stands : (m : ℕ) (c : ℤ) (buffer : List ℕ) → isWindow m ≡ true → RowOf m c (weight (row m c)) (rowBelow (length (row m c)) (filled (row m c) buffer))
 row-stands m c buffer e =
     let (odd, within) = window-parts m e in
     let some : 1 ≤ m = omega arith in
-    subst (RowOf m c (weight (row m (pos c)))) (sym (row-read _ (omega arith) (row-digits m (pos c) some))) (row-is m c some)
+    subst (RowOf m c (weight (row m c))) (sym (row-read _ (omega arith) (row-digits m c some))) (row-is m c some)
 
-joint-is : (k l : ℕ) → JointOf k l (Columns.weight two (joint (pos k) (pos l))) (joint (pos k) (pos l))
+joint-is : (k l : ℤ) → JointOf k l (Columns.weight two (joint k l)) (joint k l)
 joint-is k l =
     record {
-      keeps = joint-keeps (pos k) (pos l);
-      topped = joint-top (pos k) (pos l);
-      reads-k = joint-value (pos k) (pos l) .0;
-      reads-l = joint-value (pos k) (pos l) .1;
+      keeps = joint-keeps k l;
+      topped = joint-top k l;
+      reads-k = joint-value k l .0;
+      reads-l = joint-value k l .1;
       short = joint-length k l;
       only = λ ds keeps topped e f. joint-only ds keeps topped ∙ ap₂ joint e f;
       counted = refl;
-      fewest = λ ds. joint-fewest (pos k) (pos l) ds;
+      fewest = λ ds. joint-fewest k l ds;
     }
 
-module _ (limits : Limits) (s : List ℕ) (m : ℕ) where
+module _ (limits : Limits) (s : List ℕ) (sign m : ℕ) where
   -- the number of the answer is that of the first question missed
-  pub row-question : (places : ℕ) → number (rowAnswer limits s m places) ≡ rowQuestion limits s m places
+  pub row-question : (places : ℕ) → number (rowAnswer limits s sign m places) ≡ rowQuestion limits s m places
   unfolding rowAnswer
   row-question places = go (sized limits s) (isWindow m) (roomy (length s) places)
     where
-      go : (a b c : Bool) → number (cond a (cond b (cond c (wroteRow (row m (pos (scalar s)))) NoRoom) BadWindow) BadScalar) ≡ cond a (cond b (cond c 0 3) 2) 1
+      go : (a b c : Bool) → number (cond a (cond b (cond c (wroteRow (row m (signedScalar s sign))) NoRoom) BadWindow) BadScalar) ≡ cond a (cond b (cond c 0 3) 2) 1
       go true true true = refl
       go true true false = refl
       go true false c = refl
       go false b c = refl
 
   -- the answer and the buffer keep the promise
-  pub row-promised : (buffer : List ℕ) → RowPromised m (scalar s) (rowAnswer limits s m (length buffer)) (rowBuffer limits s m buffer)
+  pub row-promised : (buffer : List ℕ) → RowPromised m (signedScalar s sign) (rowAnswer limits s sign m (length buffer)) (rowBuffer limits s sign m buffer)
   unfolding rowAnswer rowBuffer
-  row-promised buffer = go (sized limits s) (isWindow m) (roomy (length s) (length buffer)) (row-stands m (scalar s) buffer)
+  row-promised buffer = go (sized limits s) (isWindow m) (roomy (length s) (length buffer)) (row-stands m (signedScalar s sign) buffer)
     where
       ds : List ℤ
-      ds = row m (pos (scalar s))
+      ds = row m (signedScalar s sign)
 
       answer : Bool → Bool → Bool → Recoded
       answer a b c = cond a (cond b (cond c (wroteRow ds) NoRoom) BadWindow) BadScalar
 
-      go : (a b c : Bool) → (b ≡ true → RowOf m (scalar s) (weight ds) (rowBelow (length ds) (filled ds buffer)))
-          → RowPromised m (scalar s) (answer a b c) (left (answer a b c) ds buffer)
+      go : (a b c : Bool) → (b ≡ true → RowOf m (signedScalar s sign) (weight ds) (rowBelow (length ds) (filled ds buffer)))
+          → RowPromised m (signedScalar s sign) (answer a b c) (left (answer a b c) ds buffer)
       go true true true h = h refl
       go true true false h = tt
       go true false c h = tt
       go false b c h = tt
 
-module _ (limits : Limits) (s t : List ℕ) where
-  pub joint-question : (places places′ : ℕ) → number (jointAnswer limits s t places places′) ≡ jointQuestion limits s t places places′
+module _ (limits : Limits) (s : List ℕ) (s-sign : ℕ) (t : List ℕ) (t-sign : ℕ) where
+  pub joint-question : (places places′ : ℕ) → number (jointAnswer limits s s-sign t t-sign places places′) ≡ jointQuestion limits s t places places′
   unfolding jointAnswer
   joint-question places places′ =
       go (sized limits s) (sized limits t) (roomy (max (length s) (length t)) places) (roomy (max (length s) (length t)) places′)
     where
       cs : List Column
-      cs = joint (pos (scalar s)) (pos (scalar t))
+      cs = joint (signedScalar s s-sign) (signedScalar t t-sign)
 
       go : (a b c d : Bool) → number (cond (a && b) (cond (c && d) (wroteColumns cs) NoRoom) BadScalar) ≡ cond a (cond b (cond c (cond d 0 3) 3) 1) 1
       go true true true true = refl
@@ -121,21 +121,21 @@ module _ (limits : Limits) (s t : List ℕ) where
       go false b c d = refl
 
   pub joint-promised : (k l : List ℕ)
-      → JointPromised (scalar s) (scalar t) (jointAnswer limits s t (length k) (length l)) (jointBuffer limits P s t k l) (jointBuffer limits Q s t k l)
+      → JointPromised (signedScalar s s-sign) (signedScalar t t-sign) (jointAnswer limits s s-sign t t-sign (length k) (length l)) (jointBuffer limits P s s-sign t t-sign k l) (jointBuffer limits Q s s-sign t t-sign k l)
   unfolding jointAnswer jointBuffer
   joint-promised k l =
       go (sized limits s && sized limits t) (roomy (max (length s) (length t)) (length k) && roomy (max (length s) (length t)) (length l))
     where
       cs : List Column
-      cs = joint (pos (scalar s)) (pos (scalar t))
+      cs = joint (signedScalar s s-sign) (signedScalar t t-sign)
 
       answer : Bool → Bool → Recoded
       answer a b = cond a (cond b (wroteColumns cs) NoRoom) BadScalar
 
       go : (a b : Bool)
-          → JointPromised (scalar s) (scalar t) (answer a b) (left (answer a b) (Columns.row two P cs) k) (left (answer a b) (Columns.row two Q cs) l)
+          → JointPromised (signedScalar s s-sign) (signedScalar t t-sign) (answer a b) (left (answer a b) (Columns.row two P cs) k) (left (answer a b) (Columns.row two Q cs) l)
       go true true =
-          subst (JointOf (scalar s) (scalar t) (Columns.weight two cs)) (sym (columns-read _ _ (joint-small (pos (scalar s)) (pos (scalar t))))) (joint-is (scalar s) (scalar t))
+          subst (JointOf (signedScalar s s-sign) (signedScalar t t-sign) (Columns.weight two cs)) (sym (columns-read _ _ (joint-small (signedScalar s s-sign) (signedScalar t t-sign)))) (joint-is (signedScalar s s-sign) (signedScalar t t-sign))
       go true false = tt
       go false b = tt
 
@@ -145,19 +145,19 @@ written-parts true false m v n w e = absurd (omega (arith, ap number e))
 written-parts false b m v n w e = absurd (omega (arith, ap number e))
 
 -- columns that keep the rules with a non-zero top are the ones that a joint call writes for their values
-pub joint-only-written : (limits : Limits) (s t k l : List ℕ) (n w : ℕ) (cs : List Column) → Keeps cs → Topped cs
-    → value (Columns.row two P cs) ≡ pos (scalar s) → value (Columns.row two Q cs) ≡ pos (scalar t)
-    → jointAnswer limits s t (length k) (length l) ≡ Written n w
+pub joint-only-written : (limits : Limits) (s : List ℕ) (s-sign : ℕ) (t : List ℕ) (t-sign : ℕ) (k l : List ℕ) (n w : ℕ) (cs : List Column) → Keeps cs → Topped cs
+    → value (Columns.row two P cs) ≡ signedScalar s s-sign → value (Columns.row two Q cs) ≡ signedScalar t t-sign
+    → jointAnswer limits s s-sign t t-sign (length k) (length l) ≡ Written n w
     → ((n ≡ length cs) × (w ≡ Columns.weight two cs))
-    × ((jointBuffer limits P s t k l ≡ filled (Columns.row two P cs) k) × (jointBuffer limits Q s t k l ≡ filled (Columns.row two Q cs) l))
+    × ((jointBuffer limits P s s-sign t t-sign k l ≡ filled (Columns.row two P cs) k) × (jointBuffer limits Q s s-sign t t-sign k l ≡ filled (Columns.row two Q cs) l))
 unfolding jointAnswer jointBuffer
-joint-only-written limits s t k l n w cs keeps topped u v e =
+joint-only-written limits s s-sign t t-sign k l n w cs keeps topped u v e =
     let same = joint-only cs keeps topped ∙ ap₂ joint u v in
-    let parts = written-parts (sized limits s && sized limits t) rooms (length (joint (pos (scalar s)) (pos (scalar t)))) (Columns.weight two (joint (pos (scalar s)) (pos (scalar t)))) n w e in (
+    let parts = written-parts (sized limits s && sized limits t) rooms (length (joint (signedScalar s s-sign) (signedScalar t t-sign))) (Columns.weight two (joint (signedScalar s s-sign) (signedScalar t t-sign))) n w e in (
       (parts .0 ∙ ap (λ (ds : List Column). length ds) (sym same), parts .1 ∙ ap (Columns.weight two) (sym same)),
       (
-        ap (λ (a : Recoded). left a (Columns.row two P (joint (pos (scalar s)) (pos (scalar t)))) k) e ∙ ap (λ (ds : List Column). filled (Columns.row two P ds) k) (sym same),
-        ap (λ (a : Recoded). left a (Columns.row two Q (joint (pos (scalar s)) (pos (scalar t)))) l) e ∙ ap (λ (ds : List Column). filled (Columns.row two Q ds) l) (sym same),
+        ap (λ (a : Recoded). left a (Columns.row two P (joint (signedScalar s s-sign) (signedScalar t t-sign))) k) e ∙ ap (λ (ds : List Column). filled (Columns.row two P ds) k) (sym same),
+        ap (λ (a : Recoded). left a (Columns.row two Q (joint (signedScalar s s-sign) (signedScalar t t-sign))) l) e ∙ ap (λ (ds : List Column). filled (Columns.row two Q ds) l) (sym same),
       ),
     )
   where

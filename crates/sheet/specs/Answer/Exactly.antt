@@ -8,7 +8,7 @@ use Prim.Native.Nat.{ℕ, _≤_}
 use native.Mathlib.Omega.{arith}
 use lib.Dec.{eqb, leb}
 use lib.ListN.{length}
-use lib.IntN.{pos}
+use lib.IntN.{ℤ}
 use borrow.Author.Tests.{eq-eqb, eqb-true, le-leb, leb-true}
 use Rattle.digits.specs.Limits.{Limits}
 use Rattle.sheet.specs.Plan.{Point, point, slots, tables}
@@ -65,15 +65,15 @@ module _ (h : Header) (ls : List Line) where
   unfolding miscounted
   of-counted a b = rw (eq-eqb (h .additions) (additions ls) a, eq-eqb (h .doublings) (doublings ls) b)
 
-  right-of : wrong h ls ≡ none → result ls ≡ point (pos (h .k)) (pos (h .l))
+  right-of : wrong h ls ≡ none → result ls ≡ point (h .k) (h .l)
   unfolding wrong
   right-of e = point-same (result ls) _ (unless-none _ 1 e)
 
-  of-right : result ls ≡ point (pos (h .k)) (pos (h .l)) → wrong h ls ≡ none
+  of-right : result ls ≡ point (h .k) (h .l) → wrong h ls ≡ none
   unfolding wrong
-  of-right e = rw (e, same-point (point (pos (h .k)) (pos (h .l))))
+  of-right e = rw (e, same-point (point (h .k) (h .l)))
 
-module _ (limits : Limits) (s : List ℕ) (k l : ℕ) where
+module _ (limits : Limits) (s : List ℕ) (k l : ℤ) where
   sound-of : LaidOut (lines limits s) → length s ≤ limits .sheet → judged limits (heading (lines limits s)) (lines limits s) ≡ accepted
       → heading (lines limits s) .k ≡ k → heading (lines limits s) .l ≡ l → Sound limits s k l
   unfolding sheetLines
@@ -99,7 +99,7 @@ module _ (limits : Limits) (s : List ℕ) (k l : ℕ) where
         carries-k = hk;
         carries-l = hl;
         reads =
-            ap result (o .laid) ∙ right-of (o .head) ls (m .right) ∙ ap₂ (λ (x y : ℕ). point (pos x) (pos y)) hk hl;
+            ap result (o .laid) ∙ right-of (o .head) ls (m .right) ∙ ap₂ point hk hl;
       }
 
   accepted-sound : Accepted limits s k l → Sound limits s k l
@@ -125,7 +125,7 @@ module _ (limits : Limits) (s : List ℕ) (k l : ℕ) where
         right =
             of-right (a .head) ls
             (sym (ap result (a .laid)) ∙ a .reads
-            ∙ ap₂ (λ (x y : ℕ). point (pos x) (pos y)) (sym (a .carries-k)) (sym (a .carries-l)));
+            ∙ ap₂ point (sym (a .carries-k)) (sym (a .carries-l)));
       }
 
   sound-accepted : Sound limits s k l → Accepted limits s k l
@@ -140,11 +140,11 @@ module _ (limits : Limits) (s : List ℕ) (k l : ℕ) where
       }
 
 -- a sheet is accepted for k and l exactly when it is a sheet for k and l
-pub accepted-exactly : (limits : Limits) (s : List ℕ) (k l : ℕ) → Accepted limits s k l ↔ Sound limits s k l
+pub accepted-exactly : (limits : Limits) (s : List ℕ) (k l : ℤ) → Accepted limits s k l ↔ Sound limits s k l
 accepted-exactly limits s k l = (accepted-sound limits s k l, sound-accepted limits s k l)
 
 -- its header states the slots that it needs and its additions
-pub accepted-states : (limits : Limits) (s : List ℕ) (k l : ℕ) → Accepted limits s k l
+pub accepted-states : (limits : Limits) (s : List ℕ) (k l : ℤ) → Accepted limits s k l
     → (heading (lines limits s) .slots ≡ sheetSlots limits s) × (heading (lines limits s) .additions ≡ sheetAdditions limits s)
 unfolding sheetLines sheetSlots sheetAdditions
 accepted-states limits s k l a =

@@ -206,7 +206,7 @@ module _ {p : Plan} where
         weighs = omega (arith, m .weighs, weight-more p (plus c t) cs, weight-more p c cs, k .weighs);
       }
 
-  steps-made : {st : Steps} → Allowed p st
+  pub steps-made : {st : Steps} → Allowed p st
       → Fits p (columnsFrom [] (stepLines st ++ (end ∷ []))) × (additions (stepLines st ++ (end ∷ [])) ≡ weight p (columnsFrom [] (stepLines st ++ (end ∷ []))) - 1)
   unfolding columnsFrom additions
   steps-made rests = (fits-none p, omega (arith, weight-none p))
@@ -234,7 +234,7 @@ sheet-additions h p st =
     additions-append (map table (tables p)) (stepLines st ++ (end ∷ []))
     ∙ ap (λ (n : ℕ). n + additions (stepLines st ++ (end ∷ []))) (tables-additions p)
 
-sound-reads : (limits : Limits) (s : List ℕ) (k l : ℕ) (a : Sound limits s k l) → Reads (plan (a .head)) (columns (lines limits s)) k l (sheetAdditions limits s)
+sound-reads : (limits : Limits) (s : List ℕ) (k l : ℤ) (a : Sound limits s k l) → Reads (plan (a .head)) (columns (lines limits s)) k l (sheetAdditions limits s)
 unfolding sheetAdditions
 sound-reads limits s k l a =
     let p : Plan = plan (a .head) in
@@ -251,7 +251,7 @@ sound-reads limits s k l a =
     }
 
 -- the steps of an accepted sheet are columns of its plan that read k and l at the cost of its additions
-pub accepted-rows : (limits : Limits) (s : List ℕ) (k l : ℕ) → Accepted limits s k l
+pub accepted-rows : (limits : Limits) (s : List ℕ) (k l : ℤ) → Accepted limits s k l
     → Reads (plan (heading (lines limits s))) (columns (lines limits s)) k l (sheetAdditions limits s)
 unfolding sheetLines
 accepted-rows limits s k l a =

@@ -10,49 +10,31 @@ use native.Mathlib.Omega.{arith}
 use lib.Dec.{eqb}
 use lib.ListN.{length, getD, drop, drop-of-length-le}
 use lib.Seq.{drop-cons}
-use lib.IntN.{ℤ, pos, negsuc}
+use lib.IntN.{ℤ}
 use borrow.Author.Tests.{eqb-true}
 use Rattle.digits.specs.Limits.{Limits}
 use Rattle.sheet.specs.Plan.{Point, point, tables}
 use Rattle.sheet.specs.Numeral.{numeral, number}
 use Rattle.sheet.specs.Numeral.Read.{numeral-number}
 use Rattle.sheet.specs.Line.{Kind, joint, interleaved, Header, plan, Line, header, table, load, double, add, end, misspelled}
-use Rattle.sheet.specs.Spelling.{lineFeed, comma, digit, kind, fields, join, spell, push, cut, letter, readKind, plain, negative, readDigit, _>>=_, readPoint, readHeader, made, sized, readBehind, readLine, readLines, lines}
+use Rattle.sheet.specs.Spelling.{lineFeed, comma, scalar, digit, kind, fields, join, spell, push, cut, letter, readKind, readScalar, readDigit, _>>=_, readPoint, readHeader, made, sized, readBehind, readLine, readLines, lines}
 use Rattle.sheet.specs.Every.{Every, empty, more}
 use Rattle.sheet.specs.Spelling.Cut.{cut-some}
+use Rattle.sheet.specs.Spelling.Whole.{unread, whole-read}
 use Rattle.sheet.specs.Answer.{Accepted}
 use Rattle.sheet.specs.Sound.{Moves, stop, doubled, added, Steps, nothing, loaded, moveLines, stepLines, sheetLines, Sound}
 use Rattle.sheet.specs.Answer.Exactly.{accepted-exactly}
 
 -- ── fields ──────────────────────────────────────────────────────────────────────────────────
 
-unread : {A : Type 0} {a : A} → none ≡ some a → ⊥
-unread e = let z : _≡_ {A = ℕ} 0 1 = cc in omega arith
-
 decimal-read : (most n : ℕ) (s : List ℕ) → number 10 most s ≡ some n → numeral 10 n ≡ s
 decimal-read most n s e = numeral-number 10 (omega arith) (omega arith) most n s e
 
-scalar-read : (most n : ℕ) (s : List ℕ) → number 16 most s ≡ some n → numeral 16 n ≡ s
-scalar-read most n s e = numeral-number 16 (omega arith) (omega arith) most n s e
-
-plain-read : (s : List ℕ) (z : ℤ) (o : Option ℕ) → number 10 2 s ≡ o → plain o ≡ some z → digit z ≡ s
-plain-read s z none e f = absurd (unread f)
-plain-read s z (some n) e f = let g : pos n ≡ z = cc in subst (λ (x : ℤ). digit x ≡ s) g (decimal-read 2 n s e)
-
-negative-read : (s : List ℕ) (z : ℤ) (o : Option ℕ) → number 10 2 s ≡ o → negative o ≡ some z → digit z ≡ code "-" ∷ s
-negative-read s z none e f = absurd (unread f)
-negative-read s z (some zero) e f = absurd (unread f)
-negative-read s z (some (suc n)) e f =
-    let g : negsuc n ≡ z = cc in
-    subst (λ (x : ℤ). digit x ≡ code "-" ∷ s) g (ap (λ (x : List ℕ). code "-" ∷ x) (decimal-read 2 (suc n) s e))
-
 digit-read : (s : List ℕ) (z : ℤ) → readDigit s ≡ some z → digit z ≡ s
-digit-read [] z e = absurd (unread e)
-digit-read (c ∷ s) z e = go (eqb c (code "-")) refl e
-  where
-    go : (b : Bool) → eqb c (code "-") ≡ b → cond b (negative (number 10 2 s)) (plain (number 10 2 (c ∷ s))) ≡ some z → digit z ≡ c ∷ s
-    go true t f = negative-read s z (number 10 2 s) refl f ∙ ap (λ (x : ℕ). x ∷ s) (sym (eqb-true c (code "-") t))
-    go false t f = plain-read (c ∷ s) z (number 10 2 (c ∷ s)) refl f
+digit-read s z e = whole-read 10 2 (omega arith) (omega arith) s z e
+
+scalar-read : (limits : Limits) (s : List ℕ) (z : ℤ) → readScalar limits s ≡ some z → scalar z ≡ s
+scalar-read limits s z e = whole-read 16 (limits .figures) (omega arith) (omega arith) s z e
 
 -- a field that has a letter is that letter
 letter-of : (s : List ℕ) (c : ℕ) → 1 ≤ c → letter s ≡ c → s ≡ c ∷ []
@@ -104,7 +86,7 @@ point-read fs c t h l n e =
     rw (digit-read (getD fs 1 []) (t .p) (m .0), digit-read (getD fs 2 []) (t .q) (m .1), sym (letter-of (getD fs 0 []) c h l))
     (fields-from 0 3 fs n)
 
-record HeaderMade (kd : Option Kind) (m1 m2 sl ad db k l : Option ℕ) (h : Header) : Type 0 where
+record HeaderMade (kd : Option Kind) (m1 m2 sl ad db : Option ℕ) (k l : Option ℤ) (h : Header) : Type 0 where
   made-kind : kd ≡ some (h .kind)
   made-m1 : m1 ≡ some (h .m1)
   made-m2 : m2 ≡ some (h .m2)
@@ -114,7 +96,7 @@ record HeaderMade (kd : Option Kind) (m1 m2 sl ad db k l : Option ℕ) (h : Head
   made-k : k ≡ some (h .k)
   made-l : l ≡ some (h .l)
 
-header-made : (kd : Option Kind) (m1 m2 sl ad db k l : Option ℕ) (h : Header)
+header-made : (kd : Option Kind) (m1 m2 sl ad db : Option ℕ) (k l : Option ℤ) (h : Header)
     → (kd >>= λ a. m1 >>= λ b. m2 >>= λ c. sl >>= λ d. ad >>= λ f. db >>= λ g. k >>= λ x. l >>= λ y.
     some (record { kind = a; m1 = b; m2 = c; slots = d; additions = f; doublings = g; k = x; l = y })) ≡ some h
     → HeaderMade kd m1 m2 sl ad db k l h
@@ -150,8 +132,8 @@ header-read limits fs h l n e =
     (number 10 4 (getD fs 4 []))
     (number 10 4 (getD fs 5 []))
     (number 10 4 (getD fs 6 []))
-    (number 16 (limits .figures) (getD fs 7 []))
-    (number 16 (limits .figures) (getD fs 8 []))
+    (readScalar limits (getD fs 7 []))
+    (readScalar limits (getD fs 8 []))
     h =
     header-made _ _ _ _ _ _ _ _ h e in
     rw (
@@ -161,8 +143,8 @@ header-read limits fs h l n e =
       decimal-read 4 (h .slots) (getD fs 4 []) (m .made-slots),
       decimal-read 4 (h .additions) (getD fs 5 []) (m .made-additions),
       decimal-read 4 (h .doublings) (getD fs 6 []) (m .made-doublings),
-      scalar-read (limits .figures) (h .k) (getD fs 7 []) (m .made-k),
-      scalar-read (limits .figures) (h .l) (getD fs 8 []) (m .made-l),
+      scalar-read limits (getD fs 7 []) (h .k) (m .made-k),
+      scalar-read limits (getD fs 8 []) (h .l) (m .made-l),
       sym (letter-of (getD fs 0 []) (code "S") (omega arith) l),
     )
     (fields-from 0 9 fs n)
@@ -306,7 +288,7 @@ unfolding sheetLines
 sheet-spelled h ts st = more (header-spelled h) (steps-spelled ts st)
 
 -- an accepted sheet is the spelling of its lines
-pub accepted-spelled : (limits : Limits) (s : List ℕ) (k l : ℕ) → Accepted limits s k l → spell (lines limits s) ≡ s
+pub accepted-spelled : (limits : Limits) (s : List ℕ) (k l : ℤ) → Accepted limits s k l → spell (lines limits s) ≡ s
 accepted-spelled limits s k l a =
     let b : Sound limits s k l = accepted-exactly limits s k l .0 a in
     read-spelled limits s

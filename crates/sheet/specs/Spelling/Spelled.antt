@@ -8,17 +8,18 @@ use Prim.Native.Nat.{ℕ, suc, _^_, _≤_, _<_}
 use Prim.Native.Char.{code}
 use native.Mathlib.Omega.{arith}
 use lib.Dec.{ltb}
-use lib.ListN.{length, getD}
+use lib.ListN.{getD}
 use lib.IntN.{ℤ, pos, negsuc, natAbs}
-use borrow.Author.Tests.{ne-eqb, ltb-true}
+use borrow.Author.Tests.{ltb-true}
 use Rattle.digits.specs.Limits.{Limits}
 use Rattle.sheet.specs.Plan.{Point}
 use Rattle.sheet.specs.Numeral.{worth, numeral, figures, number}
-use Rattle.sheet.specs.Numeral.Read.{number-numeral, numeral-some, numeral-figures}
+use Rattle.sheet.specs.Numeral.Read.{number-numeral, numeral-figures}
 use Rattle.sheet.specs.Line.{Kind, joint, interleaved, Header, Line, header, table, load, double, add, end, misspelled}
-use Rattle.sheet.specs.Spelling.{lineFeed, comma, digit, kind, fields, join, spell, cut, letter, readKind, plain, negative, readDigit, readPoint, readHeader, readBehind, readLine, lines}
+use Rattle.sheet.specs.Spelling.{lineFeed, comma, minus, whole, scalar, digit, kind, fields, join, spell, cut, letter, readKind, readScalar, readDigit, readPoint, readHeader, readBehind, readLine, lines}
 use Rattle.sheet.specs.Every.{Every, empty, more, every-append}
 use Rattle.sheet.specs.Spelling.Cut.{Lacks, cut-join, lines-none, lines-more}
+use Rattle.sheet.specs.Spelling.Whole.{read-whole}
 
 -- digits of one or two figures
 pub record ShortPoint (t : Point) : Type 0 where
@@ -32,8 +33,8 @@ pub record ShortHeader (limits : Limits) (h : Header) : Type 0 where
   pub short-slots : h .slots < 10000
   pub short-additions : h .additions < 10000
   pub short-doublings : h .doublings < 10000
-  pub short-k : h .k < 16 ^ limits .figures
-  pub short-l : h .l < 16 ^ limits .figures
+  pub short-k : natAbs (h .k) < 16 ^ limits .figures
+  pub short-l : natAbs (h .l) < 16 ^ limits .figures
 
 -- a line whose numbers are short enough to be spelled
 abbrev pub Short : Limits → Line → Type 0
@@ -57,24 +58,27 @@ figures-lack base b h w (c ∷ s) e =
     other f g = let l : worth c < base = ltb-true (worth c) base f in omega (arith, ap worth g)
 
 -- a byte before the minus that is no figure
-module _ (b : ℕ) (w : worth b ≡ 16) (before : b < code "-") where
+module _ (b : ℕ) (w : worth b ≡ 16) (before : b < minus) where
   numeral-lacks : (base n : ℕ) → 2 ≤ base → base ≤ 16 → Lacks b (numeral base n)
   numeral-lacks base n p q = figures-lack base b q w (numeral base n) (numeral-figures base p q n)
 
   decimal-lacks : (n : ℕ) → Lacks b (numeral 10 n)
   decimal-lacks n = numeral-lacks 10 n (omega arith) (omega arith)
 
-  scalar-lacks : (n : ℕ) → Lacks b (numeral 16 n)
-  scalar-lacks n = numeral-lacks 16 n (omega arith) (omega arith)
+  whole-lacks : (base : ℕ) → 2 ≤ base → base ≤ 16 → (z : ℤ) → Lacks b (whole base z)
+  whole-lacks base p q (pos n) = numeral-lacks base n p q
+  whole-lacks base p q (negsuc n) = more other (numeral-lacks base (suc n) p q)
+    where
+      other : minus ≢ b
+      other = omega arith
+
+  scalar-lacks : (z : ℤ) → Lacks b (scalar z)
+  scalar-lacks z = whole-lacks 16 (omega arith) (omega arith) z
 
   digit-lacks : (z : ℤ) → Lacks b (digit z)
-  digit-lacks (pos n) = decimal-lacks n
-  digit-lacks (negsuc n) = more minus (decimal-lacks (suc n))
-    where
-      minus : code "-" ≢ b
-      minus = omega arith
+  digit-lacks z = whole-lacks 10 (omega arith) (omega arith) z
 
-  letter-lacks : (c : ℕ) → code "-" < c → Lacks b (c ∷ [])
+  letter-lacks : (c : ℕ) → minus < c → Lacks b (c ∷ [])
   letter-lacks c h = more other empty
     where
       other : c ≢ b
@@ -84,7 +88,7 @@ module _ (b : ℕ) (w : worth b ≡ 16) (before : b < code "-") where
   kind-lacks joint = letter-lacks (code "J") (omega arith)
   kind-lacks interleaved = letter-lacks (code "I") (omega arith)
 
-  point-lacks : (c : ℕ) → code "-" < c → (t : Point) → Every (Lacks b) ((c ∷ []) ∷ digit (t .p) ∷ digit (t .q) ∷ [])
+  point-lacks : (c : ℕ) → minus < c → (t : Point) → Every (Lacks b) ((c ∷ []) ∷ digit (t .p) ∷ digit (t .q) ∷ [])
   point-lacks c h t = more (letter-lacks c h) (more (digit-lacks (t .p)) (more (digit-lacks (t .q)) empty))
 
   fields-lack : (l : Line) → Every (Lacks b) (fields l)
@@ -107,21 +111,8 @@ module _ (b : ℕ) (w : worth b ≡ 16) (before : b < code "-") where
   fields-lack misspelled = more empty empty
 
 -- a digit is read back
-plain-first : (s : List ℕ) → 1 ≤ length s → figures 10 s ≡ true → readDigit s ≡ plain (number 10 2 s)
-unfolding figures
-plain-first [] l e = absurd (omega arith)
-plain-first (c ∷ s) l e =
-    let (first, others) = and-eq-true-iff (ltb (worth c) 10) (figures 10 s) .0 e in
-    rw (ne-eqb c (code "-") (other first))
-  where
-    other : ltb (worth c) 10 ≡ true → c ≢ code "-"
-    other f g = let l : worth c < 10 = ltb-true (worth c) 10 f in omega (arith, ap worth g)
-
 read-digit : (z : ℤ) → natAbs z < 100 → readDigit (digit z) ≡ some z
-read-digit (pos n) h =
-    plain-first (numeral 10 n) (numeral-some 10 (omega arith) (omega arith) n) (numeral-figures 10 (omega arith) (omega arith) n)
-    ∙ ap plain (number-numeral 10 (omega arith) (omega arith) 2 n (omega arith) h)
-read-digit (negsuc n) h = ap negative (number-numeral 10 (omega arith) (omega arith) 2 (suc n) (omega arith) h)
+read-digit z h = read-whole 10 2 (omega arith) (omega arith) z (omega arith) h
 
 read-kind : (k : Kind) → readKind (kind k) ≡ some k
 read-kind joint = refl
@@ -143,8 +134,8 @@ unfolding readPoint
 read-point c t s = rw (read-digit (t .p) (s .short-p), read-digit (t .q) (s .short-q))
 
 module _ (limits : Limits) (some-figures : 1 ≤ limits .figures) where
-  read-scalar : (n : ℕ) → n < 16 ^ limits .figures → number 16 (limits .figures) (numeral 16 n) ≡ some n
-  read-scalar n h = number-numeral 16 (omega arith) (omega arith) (limits .figures) n some-figures h
+  read-scalar : (z : ℤ) → natAbs z < 16 ^ limits .figures → readScalar limits (scalar z) ≡ some z
+  read-scalar z h = read-whole 16 (limits .figures) (omega arith) (omega arith) z some-figures h
 
   read-header : (h : Header) → ShortHeader limits h → readHeader limits (fields (header h)) ≡ some h
   unfolding readHeader

@@ -3,7 +3,7 @@ use mathlib.Core.Path.{_≡_}
 use mathlib.Core.Bool.{Bool, true, false, cond}
 use mathlib.Core.List.{List, [], _∷_, _++_, map}
 use Prim.Native.Nat.{ℕ, zero, suc, _+_, _/_, _%_, _^_, _≤_, _<_}
-use lib.IntN.{pos}
+use lib.IntN.{ℤ, pos, natAbs}
 use lib.ListN.{length, set, getD}
 use lib.Seq.{sets}
 use Rattle.digits.specs.Byte.{signed}
@@ -14,7 +14,7 @@ use Rattle.sheet.specs.Digits.{weight}
 use Rattle.sheet.specs.Line.{Header, table}
 use Rattle.sheet.specs.Numeral.{figure, numeral}
 use Rattle.sheet.specs.Plan.{Point, point, stored, odds, multiples}
-use Rattle.sheet.specs.Spelling.{comma, lineFeed, digit, kind, spell}
+use Rattle.sheet.specs.Spelling.{comma, lineFeed, scalar, digit, kind, spell}
 use Rattle.written.specs.Valid.{Valid}
 use Rattle.written.specs.Written.{digits}
 
@@ -83,8 +83,8 @@ unfoldable pub decimalsOf : ℕ → ℕ → ℕ → ℕ → ℕ → List ℕ
 decimalsOf m1 m2 slots additions doublings =
     field m1 ++ (field m2 ++ (field slots ++ (field additions ++ field doublings)))
 
-unfoldable pub scalarsOf : ℕ → ℕ → List ℕ
-scalarsOf k l = numeral 16 k ++ comma ∷ (numeral 16 l ++ lineFeed ∷ [])
+unfoldable pub scalarsOf : ℤ → ℤ → List ℕ
+scalarsOf k l = scalar k ++ comma ∷ (scalar l ++ lineFeed ∷ [])
 
 unfoldable pub headerBytes : Header → List ℕ
 headerBytes h = lettersOf (kind (h .kind)) ++ (decimalsOf (h .m1) (h .m2) (h .slots) (h .additions) (h .doublings) ++ scalarsOf (h .k) (h .l))
@@ -94,12 +94,12 @@ pub record Holds (p q : List ℕ) (cs : List Column) : Type 0 where
   pub columns : (i : ℕ) → columnAt p q i ≡ getD cs i blankColumn
 
 -- a number that a scalar of 66 bytes can have
-unfoldable pub Bounded : ℕ → Type 0
-Bounded n = n < 2 ^ 528
+unfoldable pub Bounded : ℤ → Type 0
+Bounded z = natAbs z < 2 ^ 528
 
 -- all that the writer needs: a valid plan, scalars of 66 bytes, the rows that hold their digits, how many places these have, what the plan
 -- counts of them, and room for a sheet
-pub record Ready (plan : Plan) (k l : ℕ) (p q : List ℕ) (places counted : ℕ) (out : List ℕ) : Type 0 where
+pub record Ready (plan : Plan) (k l : ℤ) (p q : List ℕ) (places counted : ℕ) (out : List ℕ) : Type 0 where
   pub valid : Valid plan
   pub k-bounded : Bounded k
   pub l-bounded : Bounded l

@@ -5,7 +5,7 @@ use mathlib.Core.List.{List, [], _∷_, _++_, map}
 use Prim.Native.Nat.{ℕ, _+_, _*_, _-_, _^_, _≤_, _<_}
 use native.Mathlib.Nat.{le-refl}
 use native.Mathlib.Omega.{arith}
-use lib.IntN.{pos}
+use lib.IntN.{ℤ, pos, natAbs}
 use lib.ListN.{length}
 use Rattle.digits.specs.Scalar.Length.{length-least}
 use Rattle.digits.specs.Limits.{Limits, card}
@@ -15,20 +15,20 @@ use Rattle.sheet.specs.declared.Plan.{Plan}
 use Rattle.sheet.specs.declared.Plan.the-variants.{J, I}
 use Rattle.sheet.specs.Answer as Answer
 use Rattle.sheet.specs.Answer.{Accepted, sheetSlots, sheetAdditions}
-use Rattle.sheet.specs.Digits.{columns, rowP, rowQ, weight, Reads}
+use Rattle.sheet.specs.Digits.{columns, rowP, rowQ, weight}
 use Rattle.sheet.specs.Answer.Exactly.{accepted-exactly}
 use Rattle.sheet.specs.Line.{Header, plan, Line, table, end}
 use Rattle.sheet.specs.Plan.Cost.{doubled-once, doublings-append, tables-doublings}
 use Rattle.sheet.specs.Plan.Slots.{slots-most}
 use Rattle.sheet.specs.Plan.{point, slots, tables, tableAdditions, tableDoublings}
 use Rattle.sheet.specs.Questions.{additions, doublings, result}
-use Rattle.sheet.specs.Digits.Accepted.{columns-value, sheet-columns, sheet-additions, accepted-rows}
+use Rattle.sheet.specs.Digits.Accepted.{columns-value, steps-made, sheet-columns, sheet-additions}
 use Rattle.sheet.specs.Sound.{Steps, stepLines, sheetLines, Windows, Allowed, Sound}
 use Rattle.sheet.specs.Sound as Sounds
 use Rattle.sheet.specs.Spelling.Spelled.{ShortHeader, spelled-read}
 use Rattle.sheet.specs.Spelling.{lines}
 use Rattle.written.specs.Written.{digits, stepsOf, kindOf, first, second, heading, linesWith, writtenLines, writtenAdditions, writtenDoublings, written}
-use Rattle.written.specs.Written.Columns.{digits-fit, digits-value, digits-top, digits-length}
+use Rattle.written.specs.Written.Columns.{digits-fit, digits-value, digits-top, digits-length, digits-signs}
 use Rattle.written.specs.Valid.{Valid, forJ, forI}
 use Rattle.written.specs.Written.Stepping.{Stepped, steps-of}
 use Rattle.written.specs.Written.Lengths.{sheet-short, sheet-bytes}
@@ -40,10 +40,10 @@ pub record Enough (limits : Limits) (b : ℕ) : Type 0 where
   pub doubles : b ≤ limits .doublings
   -- the counts have at most four figures
   pub counts : 2 * b + 32 < 10000
-  pub bytes : 22 * b + 2 * limits .figures + 383 ≤ limits .sheet
+  pub bytes : 22 * b + 2 * limits .figures + 385 ≤ limits .sheet
 
 -- the plan of the header is the plan, and its windows are good ones
-plan-heading : (p : Plan) (a d k l : ℕ) → plan (heading p a d k l) ≡ p
+plan-heading : (p : Plan) (a d : ℕ) (k l : ℤ) → plan (heading p a d k l) ≡ p
 plan-heading J a d k l = refl
 plan-heading (I m1 m2) a d k l = refl
 
@@ -71,7 +71,7 @@ small-plan : {p : Plan} → Valid p → (first p < 10000) × (second p < 10000) 
 small-plan forJ = (omega arith, omega arith, omega arith)
 small-plan (forI {m1} {m2} v w) = (omega (arith, v .within), omega (arith, w .within), omega (arith, slots-most m1 m2 (v .within) (w .within)))
 
-module _ (p : Plan) (k l : ℕ) where
+module _ (p : Plan) (k l : ℤ) where
   -- the additions and doublings of the steps
   stepAdditions : ℕ
   stepAdditions = additions (stepLines (stepsOf p (digits p k l)) ++ (end ∷ []))
@@ -119,17 +119,24 @@ module _ (p : Plan) (k l : ℕ) where
     unfolding stepDoublings writtenDoublings
     written-doublings = lines-doublings ∙ head-doublings ∙ ap (λ (n : ℕ). tableDoublings p + n) (stepped .doublings-are)
 
+    -- the additions: those of the table, and one for each step but the load
+    pub written-cost : writtenAdditions p k l ≡ tableAdditions p + (weight p (digits p k l) - 1)
+    unfolding stepAdditions writtenAdditions
+    written-cost =
+        lines-additions ∙ head-additions
+        ∙ ap (λ (n : ℕ). tableAdditions p + n) (steps-made (stepped .allowed) .1 ∙ ap (λ (cs : List Column). weight p cs - 1) (stepped .made))
+
     -- the lines come to kP + lQ
-    written-result : result (writtenLines p k l) ≡ point (pos k) (pos l)
+    written-result : result (writtenLines p k l) ≡ point k l
     written-result =
         let c = columns-value (writtenLines p k l) in
         let d = digits-value k l v in
         ap₂ point (sym (c P) ∙ ap (λ (cs : List Column). value (rowP cs)) written-columns ∙ d .0)
         (sym (c Q) ∙ ap (λ (cs : List Column). value (rowQ cs)) written-columns ∙ d .1)
 
-    module _ (limits : Limits) (b : ℕ) (enough : Enough limits b) (k-fits : k < 2 ^ b) (l-fits : l < 2 ^ b) where
+    module _ (limits : Limits) (b : ℕ) (enough : Enough limits b) (k-fits : natAbs k < 2 ^ b) (l-fits : natAbs l < 2 ^ b) where
       pub places : length (digits p k l) ≤ b + 1
-      places = digits-length k l v b (length-least k b k-fits) (length-least l b l-fits)
+      places = digits-length k l v b (length-least (natAbs k) b k-fits) (length-least (natAbs l) b l-fits)
 
       -- its additions: at most 30 in the table, and two at each place
       pub few-within : writtenAdditions p k l ≤ 30 + 2 * (b + 1)
@@ -217,17 +224,16 @@ module _ (p : Plan) (k l : ℕ) where
       unfolding sheetLines
       doubled-within = ap (λ (ls : List Line). Answer.heading ls .doublings) (lines-within ∙ written-header)
 
-      -- its additions: those of the table, and one for each step but the load
-      pub cost-within : writtenAdditions p k l ≡ tableAdditions p + (weight p (digits p k l) - 1)
-      cost-within =
-          let r : Reads p (digits p k l) k l (writtenAdditions p k l) =
-          subst (λ (q : Plan). Reads q (digits p k l) k l (writtenAdditions p k l)) plan-within
-          (subst (λ (cs : List Column). Reads (plan (Answer.heading (lines limits (written p k l)))) cs k l (writtenAdditions p k l))
-          (ap columns lines-within ∙ written-columns)
-          (subst (λ (a : ℕ). Reads (plan (Answer.heading (lines limits (written p k l)))) (columns (lines limits (written p k l))) k l a) additions-within
-          (accepted-rows limits (written p k l) k l accepted-within)))
-          in
-          r .costs
+-- the signs of the scalars change neither the additions nor the doublings
+pub written-signs : (p : Plan) (k l : ℤ) → Valid p
+    → (writtenAdditions p k l ≡ writtenAdditions p (pos (natAbs k)) (pos (natAbs l))) × (writtenDoublings p k l ≡ writtenDoublings p (pos (natAbs k)) (pos (natAbs l)))
+written-signs p k l v =
+    let x : ℤ = pos (natAbs k) in
+    let y : ℤ = pos (natAbs l) in
+    let same = digits-signs k l v in (
+      written-cost p k l v ∙ ap (λ (n : ℕ). tableAdditions p + (n - 1)) (same .1) ∙ sym (written-cost p x y v),
+      written-doublings p k l v ∙ ap (λ (n : ℕ). tableDoublings p + (n - 1)) (same .0) ∙ sym (written-doublings p x y v),
+    )
 
 -- the card's limits are enough for scalars of 528 bits
 pub card-enough : Enough card 528

@@ -7,7 +7,7 @@ use mathlib.Core.List.{List, [], _∷_}
 use Prim.Native.Nat.{ℕ, zero, suc, _+_, _≤_, _<_, max}
 use native.Mathlib.Omega.{arith}
 use lib.Dec.{T, leb}
-use lib.IntN.{ℤ, pos, _+ℤ_}
+use lib.IntN.{ℤ, pos, _+ℤ_, natAbs}
 use lib.ListN.{length, getD}
 use mir.Facts.{not-T}
 use borrow.Author.Tests.{leb-true, leb-false}
@@ -18,9 +18,11 @@ use Rattle.digits.specs.Column.{row}
 use Rattle.digits.specs.Two.{Column, P, Q, blank, blank-digit, blankColumn}
 use Rattle.forms.specs.Joint.{Topped}
 use Rattle.forms.specs.Joint.Length.{joint-length}
+use Rattle.forms.specs.Joint.Negated.{joint-size}
 use Rattle.forms.specs.Joint.Value.{joint-value, joint-small, joint-top}
 use Rattle.forms.specs.Row as Row
 use Rattle.forms.specs.Row.Length.{row-length}
+use Rattle.forms.specs.Row.Negated.{row-size}
 use Rattle.forms.specs.Row.Value.{row-digits, row-value, row-top}
 use Rattle.sheet.specs.declared.Plan.{Plan}
 use Rattle.sheet.specs.Digits.{rowP, rowQ, Fits, weight}
@@ -97,37 +99,53 @@ paired-top xs ys f g i e =
 
 -- ── the digits of a plan ────────────────────────────────────────────────────────────────────
 
-module _ (k l : ℕ) where
+module _ (k l : ℤ) where
   -- they are the plan's
   pub digits-fit : {p : Plan} → Valid p → Fits p (digits p k l)
   unfolding digits
-  digits-fit forJ = joint-small (pos k) (pos l)
+  digits-fit forJ = joint-small k l
   digits-fit (forI {m1} {m2} v w) =
-      paired-over (Row.row m1 (pos k)) (Row.row m2 (pos l)) (row-digits m1 (pos k) (window-positive v)) (row-digits m2 (pos l) (window-positive w))
+      paired-over (Row.row m1 k) (Row.row m2 l) (row-digits m1 k (window-positive v)) (row-digits m2 l (window-positive w))
 
   -- they read k and l
-  pub digits-value : {p : Plan} → Valid p → (value (rowP (digits p k l)) ≡ pos k) × (value (rowQ (digits p k l)) ≡ pos l)
+  pub digits-value : {p : Plan} → Valid p → (value (rowP (digits p k l)) ≡ k) × (value (rowQ (digits p k l)) ≡ l)
   unfolding digits
-  digits-value forJ = joint-value (pos k) (pos l)
+  digits-value forJ = joint-value k l
   digits-value (forI {m1} {m2} v w) =
-      let r = paired-value (Row.row m1 (pos k)) (Row.row m2 (pos l)) in
-      (r .0 ∙ row-value m1 (pos k) (window-positive v), r .1 ∙ row-value m2 (pos l) (window-positive w))
+      let r = paired-value (Row.row m1 k) (Row.row m2 l) in
+      (r .0 ∙ row-value m1 k (window-positive v), r .1 ∙ row-value m2 l (window-positive w))
 
   -- the top column is not zero
   pub digits-top : {p : Plan} → Valid p → Topped (digits p k l)
   unfolding digits
-  digits-top forJ = joint-top (pos k) (pos l)
+  digits-top forJ = joint-top k l
   digits-top (forI {m1} {m2} v w) =
-      paired-top (Row.row m1 (pos k)) (Row.row m2 (pos l)) (row-top m1 (pos k) (window-positive v)) (row-top m2 (pos l) (window-positive w))
+      paired-top (Row.row m1 k) (Row.row m2 l) (row-top m1 k (window-positive v)) (row-top m2 l (window-positive w))
 
   -- scalars below 2^b have at most b + 1 of them
-  pub digits-length : {p : Plan} → Valid p → (b : ℕ) → bitLength k ≤ b → bitLength l ≤ b → length (digits p k l) ≤ b + 1
+  pub digits-length : {p : Plan} → Valid p → (b : ℕ) → bitLength (natAbs k) ≤ b → bitLength (natAbs l) ≤ b → length (digits p k l) ≤ b + 1
   unfolding digits
   digits-length forJ b h g = omega (arith, joint-length k l)
   digits-length (forI {m1} {m2} v w) b h g =
       omega (
         arith,
-        paired-length (Row.row m1 (pos k)) (Row.row m2 (pos l)),
+        paired-length (Row.row m1 k) (Row.row m2 l),
         row-length m1 k (window-positive v),
         row-length m2 l (window-positive w),
+      )
+
+  -- the signs of the scalars change neither how many there are nor what the plan counts
+  pub digits-signs : {p : Plan} → Valid p
+      → (length (digits p k l) ≡ length (digits p (pos (natAbs k)) (pos (natAbs l)))) × (weight p (digits p k l) ≡ weight p (digits p (pos (natAbs k)) (pos (natAbs l))))
+  unfolding digits
+  digits-signs forJ = joint-size k l
+  digits-signs (forI {m1} {m2} v w) =
+      let xs : List ℤ = Row.row m1 k in
+      let ys : List ℤ = Row.row m2 l in
+      let us : List ℤ = Row.row m1 (pos (natAbs k)) in
+      let vs : List ℤ = Row.row m2 (pos (natAbs l)) in
+      let x = row-size m1 k (window-positive v) in
+      let y = row-size m2 l (window-positive w) in (
+        omega (arith, paired-length xs ys, paired-length us vs, x .0, y .0),
+        omega (arith, paired-weight xs ys, paired-weight us vs, x .1, y .1),
       )

@@ -1,5 +1,5 @@
 -- The numbers on the lines of a valid plan are short enough to be spelled, and how many bytes the lines come to: a line with a
--- point at most 10, a D line 2, a header 31 and its two scalars. Assumes nothing.
+-- point at most 10, a D line 2, a header 33 and the figures of its two scalars. Assumes nothing.
 use mathlib.Core.Path.{_≡_, refl, sym, ap, _∙_}
 use mathlib.Core.Bool.{Bool, true, false, not, _&&_, cond, and-eq-true-iff}
 use mathlib.Core.List.{List, [], _∷_, _++_, map, append-assoc}
@@ -21,7 +21,7 @@ use Rattle.sheet.specs.Plan.{Point, point, stored, odds, multiples, tables}
 use Rattle.sheet.specs.Questions.{additions}
 use Rattle.sheet.specs.Sound.{Moves, Steps, moveLines, stepLines, moveDoubles, stepDoubles, sheetLines, Window, Turn, forBoth, forP, forQ, AllowedMoves, stops, doubles, adds, Allowed, rests, loads}
 use Rattle.sheet.specs.Spelling.Spelled.{ShortPoint, ShortHeader, Short}
-use Rattle.sheet.specs.Spelling.{comma, lineFeed, digit, kind, fields, join, spell}
+use Rattle.sheet.specs.Spelling.{comma, lineFeed, whole, scalar, digit, kind, fields, join, spell}
 use Rattle.written.specs.Valid.{Valid, forJ, forI}
 
 -- lines that follow one another are spelled so
@@ -51,9 +51,13 @@ numeral-length base most n low high h l =
 decimal-length : (n : ℕ) → n < 10000 → length (numeral 10 n) ≤ 4
 decimal-length n h = numeral-length 10 4 n (omega arith) (omega arith) (omega arith) h
 
+-- a whole number has a minus beside its figures
+pub whole-length : (base most : ℕ) → 2 ≤ base → base ≤ 16 → 1 ≤ most → (z : ℤ) → natAbs z < base ^ most → length (whole base z) ≤ most + 1
+whole-length base most low high h (pos n) l = omega (arith, numeral-length base most n low high h l)
+whole-length base most low high h (negsuc n) l = omega (arith, numeral-length base most (suc n) low high h l)
+
 digit-length : (z : ℤ) → natAbs z < 100 → length (digit z) ≤ 3
-digit-length (pos n) h = omega (arith, numeral-length 10 2 n (omega arith) (omega arith) (omega arith) h)
-digit-length (negsuc n) h = omega (arith, numeral-length 10 2 (suc n) (omega arith) (omega arith) (omega arith) h)
+digit-length z h = whole-length 10 2 (omega arith) (omega arith) (omega arith) z h
 
 kind-length : (k : Kind) → length (kind k) ≡ 1
 kind-length joint = refl
@@ -94,15 +98,15 @@ pub end-length : length (spell (end ∷ [])) ≡ 2
 unfolding spell join
 end-length = refl
 
-header-length : (limits : Limits) (h : Header) → 1 ≤ limits .figures → ShortHeader limits h → length (join comma (fields (header h))) ≤ 30 + 2 * limits .figures
+header-length : (limits : Limits) (h : Header) → 1 ≤ limits .figures → ShortHeader limits h → length (join comma (fields (header h))) ≤ 32 + 2 * limits .figures
 header-length limits h f s =
     let d1 : List ℕ = numeral 10 (h .m1) in
     let d2 : List ℕ = numeral 10 (h .m2) in
     let d3 : List ℕ = numeral 10 (h .slots) in
     let d4 : List ℕ = numeral 10 (h .additions) in
     let d5 : List ℕ = numeral 10 (h .doublings) in
-    let k : List ℕ = numeral 16 (h .k) in
-    let l : List ℕ = numeral 16 (h .l) in
+    let k : List ℕ = scalar (h .k) in
+    let l : List ℕ = scalar (h .l) in
     let front : length (join comma (fields (header h))) ≡ 4 + length (join comma (d1 ∷ d2 ∷ d3 ∷ d4 ∷ d5 ∷ k ∷ l ∷ [])) =
     omega (
       arith,
@@ -130,8 +134,8 @@ header-length limits h f s =
       arith,
       join-length comma k l [],
       last-length comma l,
-      numeral-length 16 (limits .figures) (h .k) (omega arith) (omega arith) f (s .short-k),
-      numeral-length 16 (limits .figures) (h .l) (omega arith) (omega arith) f (s .short-l),
+      whole-length 16 (limits .figures) (omega arith) (omega arith) f (h .k) (s .short-k),
+      whole-length 16 (limits .figures) (omega arith) (omega arith) f (h .l) (s .short-l),
     )
 
 -- ── the T lines ─────────────────────────────────────────────────────────────────────────────
@@ -237,7 +241,7 @@ module _ (limits : Limits) {p : Plan} (v : Valid p) (h : Header) (short : ShortH
 
   -- the bytes of all lines
   pub sheet-bytes : 1 ≤ limits .figures
-      → length (spell (sheetLines h (tables p) st)) ≤ 2 * limits .figures + 2 * stepDoubles st + 10 * additions (stepLines st ++ (end ∷ [])) + 363
+      → length (spell (sheetLines h (tables p) st)) ≤ 2 * limits .figures + 2 * stepDoubles st + 10 * additions (stepLines st ++ (end ∷ [])) + 365
   unfolding sheetLines
   sheet-bytes f =
       omega (

@@ -20,6 +20,15 @@ impl Number {
         Some(Number(words))
     }
 
+    /// The number in bytes, most significant first, which are no more than there is room for.
+    pub fn from_bytes(bytes: &[u8]) -> Number {
+        let mut words = [0; WORDS];
+        for (place, &byte) in bytes.iter().rev().enumerate() {
+            words[place / 8] |= u64::from(byte) << (place % 8 * 8);
+        }
+        Number(words)
+    }
+
     /// The number in so many bytes, most significant first.
     pub fn to_bytes(self, count: usize) -> Vec<u8> {
         let byte = |place: usize| (self.0[place / 8] >> (place % 8 * 8)) as u8;
@@ -305,6 +314,7 @@ mod tests {
     fn bytes_and_bits() {
         let number = hex("123456789abcdef01");
         assert_eq!(number.to_bytes(10), [0, 1, 0x23, 0x45, 0x67, 0x89, 0xab, 0xcd, 0xef, 1]);
+        assert_eq!(Number::from_bytes(&number.to_bytes(10)), number);
         assert_eq!(number.bit_length(), 65);
         assert_eq!(number.with_bit_changed(64), hex("23456789abcdef01"));
         assert_eq!(Number::from_hex(&"f".repeat(145)), None);

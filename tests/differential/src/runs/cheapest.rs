@@ -1,13 +1,13 @@
 //! Cheapest sheets.
 
-use super::{refused_scalars, ROOM, ROOMS};
+use super::{comes_to_its_pair, refused_scalars, ROOM, ROOMS};
 use crate::judge::Judge;
 use reference::answer::Answer;
 use reference::calls::Call;
 use reference::cheapest::Forms;
 use reference::plan::MOST_SLOTS;
 use reference::random::Random;
-use reference::scalars;
+use reference::scalars::{self, Scalar};
 
 const RANDOM_PAIRS: usize = 1_500;
 const REFUSED_LIMITS: [u32; 9] = [32, 33, 255, 256, 287, 65_536, 1 << 31, (1 << 31) + 5, u32::MAX];
@@ -17,17 +17,29 @@ pub fn run(judge: &mut Judge, random: &mut Random) {
         let (k, l) = scalars::random_pair(random);
         every_limit(judge, &k, &l);
     }
-    every_limit(judge, &[255; 66], &[255; 66]);
-    every_limit(judge, &scalars::dense(), &scalars::dense());
+    for bytes in [vec![255; 66], scalars::dense()] {
+        let (plus, minus) = (Scalar::plus(bytes.clone()), Scalar::minus(bytes));
+        every_limit(judge, &plus, &plus);
+        every_limit(judge, &plus, &minus);
+        every_limit(judge, &minus, &plus);
+        every_limit(judge, &minus, &minus);
+    }
     refusals(judge, random);
 }
 
-fn every_limit(judge: &mut Judge, k: &[u8], l: &[u8]) {
-    let forms = Forms::of(scalars::value(k), scalars::value(l));
+/// The cheapest sheets, and what each comes to that is another than the one before.
+fn every_limit(judge: &mut Judge, k: &Scalar, l: &Scalar) {
+    let forms = Forms::of(k.value(), l.value());
+    let mut before = Vec::new();
     for limit in 0..=MOST_SLOTS {
         let sheet = forms.cheapest_sheet(limit as usize);
-        let call = Call::Cheapest { k: k.to_vec(), l: l.to_vec(), limit, room: ROOM };
-        judge.compare_with(&call, &Answer::sheet(&sheet));
+        let call = Call::Cheapest { k: k.clone(), l: l.clone(), limit, room: ROOM };
+        let outcome = judge.compare_with(&call, &Answer::sheet(&sheet));
+        let written = outcome.sheet().unwrap_or_default();
+        if written != before {
+            comes_to_its_pair(judge, &call, &outcome);
+        }
+        before = written.to_vec();
     }
 }
 

@@ -4,7 +4,7 @@ use super::refused_scalars;
 use crate::judge::Judge;
 use reference::calls::Call;
 use reference::random::Random;
-use reference::scalars;
+use reference::scalars::{self, Scalar};
 
 const RANDOM_PAIRS: usize = 30_000;
 
@@ -19,8 +19,8 @@ pub fn run(judge: &mut Judge, random: &mut Random) {
     small_buffers(judge, random);
 }
 
-fn compare_with_room(judge: &mut Judge, random: &mut Random, k: Vec<u8>, l: Vec<u8>) {
-    let exact = 8 * k.len().max(l.len()) + 1;
+fn compare_with_room(judge: &mut Judge, random: &mut Random, k: Scalar, l: Scalar) {
+    let exact = 8 * k.bytes.len().max(l.bytes.len()) + 1;
     let rooms = [(); 4].map(|()| exact + random.pick(&[0, 0, 1, 300]));
     let [k_places, l_places, ..] = rooms;
     judge.compare(&Call::Joint { k: k.clone(), l: l.clone(), k_places, l_places });
@@ -40,17 +40,18 @@ fn every_two_lengths(judge: &mut Judge, random: &mut Random) {
 fn around_powers(judge: &mut Judge, random: &mut Random) {
     let powers = scalars::around_powers_of_two();
     for k in &powers {
-        let l = powers[random.below(powers.len())].clone();
-        compare_with_room(judge, random, k.clone(), l);
+        let l = &powers[random.below(powers.len())];
+        let (k, l) = (scalars::signed(random, k.clone()), scalars::signed(random, l.clone()));
+        compare_with_room(judge, random, k, l);
     }
 }
 
 fn refused_lengths(judge: &mut Judge, random: &mut Random) {
-    let mut good = vec![vec![7], vec![255; 66]];
+    let mut good = vec![Scalar::plus([7]), Scalar::minus([255; 66])];
     good.extend(refused_scalars(random));
     for bad in refused_scalars(random) {
         for other in &good {
-            let enough = 8 * bad.len().max(other.len()) + 1;
+            let enough = 8 * bad.bytes.len().max(other.bytes.len()) + 1;
             for places in [0, 529, enough] {
                 for (k, l) in [(&bad, other), (other, &bad)] {
                     let (k, l) = (k.clone(), l.clone());
@@ -70,8 +71,9 @@ fn refused_lengths(judge: &mut Judge, random: &mut Random) {
 fn small_buffers(judge: &mut Judge, random: &mut Random) {
     for _ in 0..200 {
         let (k, l) = scalars::random_pair(random);
-        let exact = 8 * k.len().max(l.len()) + 1;
-        let by_shorter = 8 * k.len().min(l.len()) + 1;
+        let (k_bytes, l_bytes) = (k.bytes.len(), l.bytes.len());
+        let exact = 8 * k_bytes.max(l_bytes) + 1;
+        let by_shorter = 8 * k_bytes.min(l_bytes) + 1;
         for small in [0, by_shorter, exact - 1] {
             for (k_places, l_places) in [(small, exact), (exact, small), (small, small)] {
                 judge.compare(&Call::Joint { k: k.clone(), l: l.clone(), k_places, l_places });

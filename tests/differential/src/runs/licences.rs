@@ -4,14 +4,16 @@
 use super::ROOM;
 use crate::judge::Judge;
 use reference::answer::Answer;
+use reference::big::Big;
 use reference::calls::Call;
+use reference::card::curve::Point;
 use reference::card::modular::Number;
 use reference::card::{self, Run};
 use reference::carry_stops;
 use reference::licences::{self, Licence};
 use reference::plan::Plan;
 use reference::random::Random;
-use reference::scalars;
+use reference::scalars::Scalar;
 use reference::sheet::{columns, Sheet};
 
 const LIMITS: [u32; 8] = [0, 1, 2, 3, 5, 8, 15, 31];
@@ -62,6 +64,7 @@ impl Trial<'_> {
             self.check(&changed, &call, false);
         }
         self.sign_turned(licence);
+        self.signed(licence);
         let survives = self.survives(licence);
         self.judge.hold(format_args!("a real licence by a carry that stops"), true, survives);
         self.found.spoiled += usize::from(!survives);
@@ -96,8 +99,8 @@ impl Trial<'_> {
         (sheet, outcome.additions())
     }
 
-    fn run(&mut self, licence: &Licence, sheet: &str) -> Option<Run> {
-        let run = card::run(&licence.curve, licence.curve.g, licence.q, sheet)?;
+    fn run(&mut self, licence: &Licence, sheet: &str) -> Option<Run<Point>> {
+        let run = card::run(&*licence.curve, licence.curve.g, licence.q, sheet)?;
         self.found.sheets += 1;
         self.found.operations += run.additions + run.doublings;
         Some(run)
@@ -126,13 +129,31 @@ impl Trial<'_> {
         self.judge.hold(format_args!("is it valid, by {call}, a sign turned"), Some(false), finds);
     }
 
+    /// With a minus before a scalar of the licence, or before both, the card comes to that multiple
+    /// taken off.
+    fn signed(&mut self, licence: &Licence) {
+        let curve = &licence.curve;
+        let (k, l) = licence.scalars();
+        let multiple = |bytes: &[u8], point| curve.multiple(Number::from_bytes(bytes), point);
+        let (of_g, of_q) = (multiple(&k, curve.g), multiple(&l, licence.q));
+        for (ks, ls) in [(0, 1), (1, 0), (1, 1)] {
+            let with = |sign, point| if sign == 0 { point } else { curve.negated(point) };
+            let expected = curve.sum(with(ks, of_g), with(ls, of_q));
+            let call =
+                any_call(self.random, Scalar::new(k.clone(), ks), Scalar::new(l.clone(), ls));
+            let (sheet, _) = self.order(&call);
+            let result = self.run(licence, &sheet).map(|run| run.result);
+            self.judge.hold(format_args!("the point, by {call}"), Some(expected), result);
+        }
+    }
+
     /// Does the licence verify by the wrong recoder's sheet? Where it does not, the reader refuses
     /// the sheet.
     fn survives(&mut self, licence: &Licence) -> bool {
         let (k, l) = licence.scalars();
         let plan = Plan::Interleaved { m1: 1, m2: 1 };
         let columns = columns(&carry_stops::recode(&k), &carry_stops::recode(&l));
-        let sheet = Sheet::from_columns(plan, scalars::value(&k), scalars::value(&l), &columns);
+        let sheet = Sheet::from_columns(plan, Big::from_bytes(&k), Big::from_bytes(&l), &columns);
         let run = self.run(licence, &sheet.to_string());
         let valid = run.is_some_and(|run| licence.is_valid(run.result));
         let answer = if valid { Answer::Accepted } else { Answer::refused(11, 1) };
@@ -143,7 +164,7 @@ impl Trial<'_> {
 
 /// The sheets that are ordered for a licence.
 fn calls(licence: &Licence) -> Vec<Call> {
-    let (k, l) = licence.scalars();
+    let (k, l) = plus_scalars(licence);
     let mut calls = vec![Call::PlanJ { k: k.clone(), l: l.clone(), room: ROOM }];
     calls.extend(WINDOWS.map(|(m1, m2)| {
         let (k, l) = (k.clone(), l.clone());
@@ -154,8 +175,23 @@ fn calls(licence: &Licence) -> Vec<Call> {
 }
 
 fn cheapest(licence: &Licence, limit: u32) -> Call {
-    let (k, l) = licence.scalars();
+    let (k, l) = plus_scalars(licence);
     Call::Cheapest { k, l, limit, room: ROOM }
+}
+
+fn plus_scalars(licence: &Licence) -> (Scalar, Scalar) {
+    let (k, l) = licence.scalars();
+    (Scalar::plus(k), Scalar::plus(l))
+}
+
+/// One of the calls that write a sheet for these scalars.
+fn any_call(random: &mut Random, k: Scalar, l: Scalar) -> Call {
+    let ((m1, m2), limit) = (random.pick(&WINDOWS), random.pick(&LIMITS));
+    match random.below(3) {
+        0 => Call::PlanJ { k, l, room: ROOM },
+        1 => Call::PlanI { k, l, m1, m2, room: ROOM },
+        _ => Call::Cheapest { k, l, limit, room: ROOM },
+    }
 }
 
 /// The slots, the additions and the doublings of a sheet's header.

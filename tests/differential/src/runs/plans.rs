@@ -1,29 +1,30 @@
 //! Sheets of named plans.
 
-use super::{refused_scalars, REFUSED_WINDOWS, ROOM, ROOMS};
+use super::{comes_to_its_pair, compare_and_read, refused_scalars, REFUSED_WINDOWS, ROOM, ROOMS};
 use crate::judge::Judge;
-use reference::answer::Answer;
 use reference::calls::Call;
 use reference::plan::Plan;
 use reference::random::Random;
-use reference::scalars;
+use reference::scalars::{self, Scalar};
 
 const RANDOM_PAIRS: usize = 150;
 
 pub fn run(judge: &mut Judge, random: &mut Random) {
     for (k, l) in pairs(random) {
         for plan in Plan::all() {
-            compare_and_read(judge, &call(plan, &k, &l, ROOM));
+            let call = call(plan, &k, &l, ROOM);
+            let outcome = compare_and_read(judge, &call);
+            comes_to_its_pair(judge, &call, &outcome);
         }
     }
-    patterned_pairs(judge);
+    patterned_pairs(judge, random);
     refused_lengths(judge, random);
     refused_windows(judge, random);
     rooms(judge, random);
 }
 
-fn pairs(random: &mut Random) -> Vec<(Vec<u8>, Vec<u8>)> {
-    let mut pairs = vec![
+fn pairs(random: &mut Random) -> Vec<(Scalar, Scalar)> {
+    let of_bytes = [
         (vec![0], vec![0]),
         (vec![1], vec![0]),
         (vec![0], vec![1]),
@@ -33,43 +34,39 @@ fn pairs(random: &mut Random) -> Vec<(Vec<u8>, Vec<u8>)> {
         (scalars::dense(), scalars::dense()),
         scalars::dense_pair(),
     ];
-    pairs.extend((0..RANDOM_PAIRS).map(|_| scalars::random_pair(random)));
-    pairs
+    let plus = of_bytes.clone().map(|(k, l)| (Scalar::plus(k), Scalar::plus(l)));
+    let minus = of_bytes.map(|(k, l)| (Scalar::minus(k), Scalar::minus(l)));
+    let random_pairs = (0..RANDOM_PAIRS).map(|_| scalars::random_pair(random));
+    plus.into_iter().chain(minus).chain(random_pairs).collect()
 }
 
-/// Every two patterned scalars in some plans.
-fn patterned_pairs(judge: &mut Judge) {
+/// Every two patterned scalars in some plans, with random signs.
+fn patterned_pairs(judge: &mut Judge, random: &mut Random) {
     let windows = [(1, 1), (3, 1), (1, 3), (5, 7), (7, 31), (31, 1), (31, 31)];
     let interleaved = windows.map(|(m1, m2)| Plan::Interleaved { m1, m2 });
     let scalars = scalars::patterned();
     for k in &scalars {
         for l in &scalars {
             for plan in interleaved.into_iter().chain([Plan::Joint]) {
-                compare_and_read(judge, &call(plan, k, l, ROOM));
+                let k = scalars::signed(random, k.clone());
+                let l = scalars::signed(random, l.clone());
+                compare_and_read(judge, &call(plan, &k, &l, ROOM));
             }
         }
     }
 }
 
-fn call(plan: Plan, k: &[u8], l: &[u8], room: usize) -> Call {
-    let (k, l) = (k.to_vec(), l.to_vec());
+fn call(plan: Plan, k: &Scalar, l: &Scalar, room: usize) -> Call {
+    let (k, l) = (k.clone(), l.clone());
     match plan {
         Plan::Joint => Call::PlanJ { k, l, room },
         Plan::Interleaved { m1, m2 } => Call::PlanI { k, l, m1: m1.into(), m2: m2.into(), room },
     }
 }
 
-/// The sheet is the reference's, and the reader accepts it.
-fn compare_and_read(judge: &mut Judge, call: &Call) {
-    let outcome = judge.compare(call);
-    if let Some(sheet) = outcome.sheet() {
-        judge.compare_with(&Call::Read { sheet: sheet.to_vec() }, &Answer::Accepted);
-    }
-}
-
 fn refused_lengths(judge: &mut Judge, random: &mut Random) {
     for bad in refused_scalars(random) {
-        for good in [vec![7], vec![255; 66]] {
+        for good in [Scalar::minus([7]), Scalar::plus([255; 66])] {
             for (k, l) in [(&bad, &good), (&good, &bad), (&bad, &bad)] {
                 for room in [0, ROOM] {
                     judge.compare(&call(Plan::Joint, k, l, room));

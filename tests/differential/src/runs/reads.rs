@@ -51,7 +51,7 @@ pub fn run(judge: &mut Judge, random: &mut Random) -> Met {
 fn every_number_of_slots(judge: &mut Judge, random: &mut Random) {
     for plan in Plan::all() {
         let (k, l) = scalars::random_pair(random);
-        let sheet = Sheet::of_plan(plan, scalars::value(&k), scalars::value(&l)).to_string();
+        let sheet = Sheet::of_plan(plan, k.value(), l.value()).to_string();
         for slots in 0..=2 * MOST_SLOTS as usize {
             let own = slots == plan.slots();
             let answer = if own { Answer::Accepted } else { Answer::refused(7, 1) };
@@ -81,7 +81,7 @@ fn random_plan(random: &mut Random) -> Plan {
 fn foreign_sheet(random: &mut Random) -> Sheet {
     let plan = random_plan(random);
     let (k, l) = scalars::random_pair(random);
-    foreign::sheet(random, plan, scalars::value(&k), scalars::value(&l))
+    foreign::sheet(random, plan, k.value(), l.value())
 }
 
 fn foreign_sheets(judge: &mut Judge, random: &mut Random, met: &mut Met) {
@@ -97,8 +97,7 @@ fn stretched_sheets(judge: &mut Judge, random: &mut Random, met: &mut Met) {
         let plan = random_plan(random);
         let (k, l) = scalars::random_pair(random);
         let places = random.pick(&[527, 528, 529, 530, 531, 600, 900]);
-        let (k, l) = (scalars::value(&k), scalars::value(&l));
-        let sheet = foreign::stretched_sheet(random, plan, k, l, places);
+        let sheet = foreign::stretched_sheet(random, plan, k.value(), l.value(), places);
         met.read(judge, sheet.to_bytes());
     }
 }
@@ -108,8 +107,7 @@ fn false_sheets(judge: &mut Judge, random: &mut Random, met: &mut Met) {
     for _ in 0..FALSE_SHEETS {
         let plan = random_plan(random);
         let (k, l) = scalars::random_pair(random);
-        let (k, l) = (scalars::value(&k), scalars::value(&l));
-        let sheet = foreign::false_sheet(random, plan, k, l);
+        let sheet = foreign::false_sheet(random, plan, k.value(), l.value());
         met.read(judge, sheet.to_bytes());
     }
 }
@@ -129,8 +127,8 @@ fn sheet_to_damage(random: &mut Random) -> Sheet {
     }
     let plan = random_plan(random);
     let bytes = random.pick(&[1, 1, 2, 3, 66]);
-    let k = scalars::value(&scalars::random_of_length(random, bytes));
-    let l = scalars::value(&scalars::random_of_length(random, bytes));
+    let k = scalars::random_of_length(random, bytes).value();
+    let l = scalars::random_of_length(random, bytes).value();
     if random.once_in(2) {
         Sheet::of_plan(plan, k, l)
     } else {
@@ -141,8 +139,10 @@ fn sheet_to_damage(random: &mut Random) -> Sheet {
 /// Every byte replaced by every other, left out, or followed by another; every cut.
 fn every_byte_of_a_short_sheet(judge: &mut Judge, met: &mut Met) {
     let joint = "S,J,1,1,2,3,1,3,1\nT,1,1\nT,1,-1\nL,1,1\nD\nA,1,-1\nE\n";
-    for good in [SEVEN_AND_TWO, joint] {
+    let signed = "S,J,1,1,2,3,1,-3,-2\nT,1,1\nT,1,-1\nL,-1,-1\nD\nA,-1,0\nE\n";
+    for good in [SEVEN_AND_TWO, joint, signed] {
         let good = good.as_bytes();
+        judge.compare_with(&Call::Read { sheet: good.to_vec() }, &Answer::Accepted);
         for at in 0..good.len() {
             met.read(judge, good[..at].to_vec());
             met.read(judge, [&good[..at], &good[at + 1..]].concat());

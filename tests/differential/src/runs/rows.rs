@@ -9,10 +9,11 @@ use reference::{row, scalars};
 const RANDOM_SCALARS: usize = 5_000;
 
 pub fn run(judge: &mut Judge, random: &mut Random) {
-    for scalar in all_scalars(random) {
+    for bytes in all_scalars(random) {
         for m in row::windows() {
-            let places = enough_places(random, scalar.len());
-            judge.compare(&Call::Row { scalar: scalar.clone(), m: m.into(), places });
+            let places = enough_places(random, bytes.len());
+            let scalar = scalars::signed(random, bytes.clone());
+            judge.compare(&Call::Row { scalar, m: m.into(), places });
         }
     }
     refused_lengths(judge, random);
@@ -20,11 +21,12 @@ pub fn run(judge: &mut Judge, random: &mut Random) {
     small_buffers(judge, random);
 }
 
+/// The bytes of many scalars; each call gives them a random sign.
 fn all_scalars(random: &mut Random) -> Vec<Vec<u8>> {
-    let mut all: Vec<Vec<u8>> = (0..=255).map(scalars::small).collect();
+    let mut all: Vec<Vec<u8>> = (0..=255).map(|value| vec![value]).collect();
     all.extend(scalars::of_every_length(random));
     all.extend(scalars::around_powers_of_two());
-    all.extend((0..RANDOM_SCALARS).map(|_| scalars::random(random)));
+    all.extend((0..RANDOM_SCALARS).map(|_| scalars::random(random).bytes));
     all
 }
 
@@ -41,7 +43,7 @@ fn enough_places(random: &mut Random, bytes: usize) -> usize {
 /// Question 1 comes before the others.
 fn refused_lengths(judge: &mut Judge, random: &mut Random) {
     for scalar in refused_scalars(random) {
-        let exact = 8 * scalar.len() + 1;
+        let exact = 8 * scalar.bytes.len() + 1;
         for m in [1, 31, 0, 33] {
             for places in [0, 529, exact] {
                 judge.compare(&Call::Row { scalar: scalar.clone(), m, places });
@@ -55,7 +57,7 @@ fn refused_windows(judge: &mut Judge, random: &mut Random) {
     for m in REFUSED_WINDOWS.into_iter().chain((2..=62).step_by(2)) {
         for _ in 0..4 {
             let scalar = scalars::random(random);
-            let exact = 8 * scalar.len() + 1;
+            let exact = 8 * scalar.bytes.len() + 1;
             for places in [0, exact - 1, exact, exact + 9] {
                 judge.compare(&Call::Row { scalar: scalar.clone(), m, places });
             }

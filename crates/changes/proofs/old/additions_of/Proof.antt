@@ -1,5 +1,6 @@
 -- `additions_of` meets its contract: the plan's own call tells them.
 use mathlib.Core.Path.{refl, sym, ap, subst, _∙_}
+use lib.IntN.{pos}
 use lib.ListN.{replicate}
 use Rattle.digits.specs.Scalar.{scalar}
 use Rattle.sheet.specs.declared.Plan.{Plan}
@@ -39,7 +40,7 @@ returns c =
     let s = c .before .before .before .before .before .before .before .before in
     let a = s .args in
     joint-additions (a .k .now) (a .l .now) (replicate 16384 0) (s .pre .1) refl (c .before .before .plan-j .ensures .0) (c .additions .ensures)
-    ∙ ap (λ (p : Plan). writtenAdditions p (scalar (a .k .now)) (scalar (a .l .now))) (sym (c .before .before .before .before .enum-told .given .1))
+    ∙ ap (λ (p : Plan). writtenAdditions p (pos (scalar (a .k .now))) (pos (scalar (a .l .now)))) (sym (c .before .before .before .before .enum-told .given .1))
 
 returns-2 : tie.Need-returns-2
 returns-2 c =
@@ -47,7 +48,7 @@ returns-2 c =
     let a = s .args in
     let e = c .before .before .before .before .before .plan .given .1 in
     other-additions (a .k .now) (a .l .now) (replicate 16384 0) (s .pre .1) refl (subst Valid e (s .pre .0)) (c .before .before .plan-i .ensures .0) (c .additions2 .ensures)
-    ∙ ap (λ (p : Plan). writtenAdditions p (scalar (a .k .now)) (scalar (a .l .now))) (sym e)
+    ∙ ap (λ (p : Plan). writtenAdditions p (pos (scalar (a .k .now))) (pos (scalar (a .l .now)))) (sym e)
 
 pub additions-of-spec : {M : Type 1} → statement M
 additions-of-spec =

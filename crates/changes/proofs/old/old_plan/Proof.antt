@@ -1,6 +1,7 @@
 -- `old_plan` meets its contract: one plan after another is looked at (Additions).
 use mathlib.Core.Path.{refl, sym, ap, _∙_}
 use mathlib.Core.List.{[], _∷_}
+use lib.IntN.{pos}
 use Rattle.digits.specs.Scalar.{scalar}
 use Rattle.sheet.specs.declared.Plan.the-variants.{J, I}
 use Rattle.written.specs.Valid.{forJ}
@@ -39,8 +40,8 @@ returns : tie.Need-returns
 returns c =
     let s = c .before .before .before .before .before .before .before .before .before .before in
     let a = s .args in
-    let k = scalar (a .k .now) in
-    let l = scalar (a .l .now) in
+    let k = pos (scalar (a .k .now)) in
+    let l = pos (scalar (a .l .now)) in
     let look = look-one k l (a .limit) in
     ap (λ (x : Candidate). x .plan)
     (sym (look-none k l (a .limit) (c .better-of7 .result))

@@ -28,8 +28,8 @@ returns c =
     let w = c .before .before in
     let a = w .before .before .before .before .before .before .before .args in
     let e = w .before .before .enum-told .given .1 in (
-      w .plan-j .ensures .0 ∙ ap (λ (p : Plan). planAnswer card p (a .k .now) (a .l .now) (length (a .sheet .now))) (sym e),
-      w .plan-j .ensures .1 .0 ∙ ap (λ (p : Plan). planBuffer card p (a .k .now) (a .l .now) (a .sheet .now)) (sym e),
+      w .plan-j .ensures .0 ∙ ap (λ (p : Plan). planAnswer card p (a .k .now) (a .k-sign) (a .l .now) (a .l-sign) (length (a .sheet .now))) (sym e),
+      w .plan-j .ensures .1 .0 ∙ ap (λ (p : Plan). planBuffer card p (a .k .now) (a .k-sign) (a .l .now) (a .l-sign) (a .sheet .now)) (sym e),
     )
 
 same-length-2 : tie.Need-same-length-2
@@ -40,8 +40,8 @@ returns-2 c =
     let w = c .before .before in
     let a = w .before .before .before .before .before .before .before .before .args in
     let e = w .before .before .before .plan .given .1 in (
-      w .plan-i .ensures .0 ∙ ap (λ (p : Plan). planAnswer card p (a .k .now) (a .l .now) (length (a .sheet .now))) (sym e),
-      w .plan-i .ensures .1 .0 ∙ ap (λ (p : Plan). planBuffer card p (a .k .now) (a .l .now) (a .sheet .now)) (sym e),
+      w .plan-i .ensures .0 ∙ ap (λ (p : Plan). planAnswer card p (a .k .now) (a .k-sign) (a .l .now) (a .l-sign) (length (a .sheet .now))) (sym e),
+      w .plan-i .ensures .1 .0 ∙ ap (λ (p : Plan). planBuffer card p (a .k .now) (a .k-sign) (a .l .now) (a .l-sign) (a .sheet .now)) (sym e),
     )
 
 pub sheet-of-spec : {M : Type 1} → statement M

@@ -1,6 +1,5 @@
 -- `first_plan` meets its contract: the sizes are those of the scalars.
 use mathlib.Core.Path.{_∙_}
-use Rattle.digits.specs.Scalar.Value.{scalar-bits}
 use Rattle.digits.specs.Scalar.{scalar}
 use Rattle.chooser.proofs.Turns.{plan-by-sizes}
 use borrow.Author.Needs.{needs}
@@ -28,12 +27,9 @@ least-plan-requires c κs = search needs
 returns : tie.Need-returns
 returns c =
     let a = c .before .before .before .before .before .before .before .before .args in
-    let p = c .before .before .before .before .before .before .before .before .pre in
     c .least-plan .ensures
     ∙ rw (c .before .before .before .before .before .row-sizes .ensures, c .before .before .before .before .row-sizes2 .ensures, c .before .before .before .joint-size-within .ensures)
-    (plan-by-sizes (a .limit) (scalar (a .k .now)) (scalar (a .l .now))
-    (scalar-bits (a .k .now) 66 (λ i. c .before .before .before .before .before .before .before .shared-slice-known .given i .fits) (p .1 .0))
-    (scalar-bits (a .l .now) 66 (λ i. c .before .before .before .before .before .before .shared-slice-known2 .given i .fits) (p .1 .1 .1)))
+    (plan-by-sizes (a .limit) (scalar (a .k .now)) (scalar (a .l .now)))
 
 pub first-plan-spec : {M : Type 1} → statement M
 first-plan-spec =

@@ -82,20 +82,20 @@ returns c =
     let w = c .before .before .before .before .before .before .before .before .write-both in
     let t = c .before .before .before .before .before .before .before .before .before .before .before .before .before in
     let a = asked (first (t .before)) .args in
-    written card (a .k .now) (a .l .now) (a .k-digits .now) (a .l-digits .now) (a .k-codes .now) (a .l-codes .now) (sizes (first (t .before)))
-    (w .result) (w .last .1 .1 .1 .0) (w .last .1 .1 .1 .1 .0) (w .last .1 .1 .1 .1 .1 .0) (w .last .1 .1 .1 .1 .1 .1 .0) (ap (roomy (t .before)) (sym (places (t .before))) ∙ roomy-is (t .before) ∙ t .if2 .taken)
+    written card (a .k .now) (a .k-sign) (a .l .now) (a .l-sign) (a .k-digits .now) (a .l-digits .now) (a .k-codes .now) (a .l-codes .now) (sizes (first (t .before)))
+    (w .result) (w .last .1 .1 .1 .1 .1 .0) (w .last .1 .1 .1 .1 .1 .1 .0) (w .last .1 .1 .1 .1 .1 .1 .1 .0) (w .last .1 .1 .1 .1 .1 .1 .1 .1 .0) (ap (roomy (t .before)) (sym (places (t .before))) ∙ roomy-is (t .before) ∙ t .if2 .taken)
     (w .ensures .0) (w .ensures .1 .0) (w .ensures .1 .1 .0) (w .ensures .1 .1 .1 .0) (w .ensures .1 .1 .1 .1)
 
 returns-2 : tie.Need-returns-2
 returns-2 c =
     let a = asked (first (c .before)) .args in
-    no-room card (a .k .now) (a .l .now) (a .k-digits .now) (a .l-digits .now) (a .k-codes .now) (a .l-codes .now) (sizes (first (c .before)))
+    no-room card (a .k .now) (a .k-sign) (a .l .now) (a .l-sign) (a .k-digits .now) (a .l-digits .now) (a .k-codes .now) (a .l-codes .now) (sizes (first (c .before)))
     (ap (roomy (c .before)) (sym (places (c .before))) ∙ roomy-is (c .before) ∙ c .if2 .left)
 
 returns-3 : tie.Need-returns-3
 returns-3 c =
     let a = c .before .before .before .before .before .before .before .before .args in
-    bad-scalar card (a .k .now) (a .l .now) (a .k-digits .now) (a .l-digits .now) (a .k-codes .now) (a .l-codes .now) (sym (c .before .are-scalars .ensures) ∙ c .if1 .left)
+    bad-scalar card (a .k .now) (a .k-sign) (a .l .now) (a .l-sign) (a .k-digits .now) (a .l-digits .now) (a .k-codes .now) (a .l-codes .now) (sym (c .before .are-scalars .ensures) ∙ c .if1 .left)
 
 pub joint-codes-spec : {M : Type 1} → statement M
 joint-codes-spec =

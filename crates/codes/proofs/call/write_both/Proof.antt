@@ -2,9 +2,8 @@
 use mathlib.Core.Path.{_≡_, refl, sym, _∙_}
 use native.Mathlib.Omega.{arith}
 use borrow.Author.Needs.{needs}
-use lib.IntN.{pos}
 use Rattle.digits.specs.Limits.{card}
-use Rattle.digits.specs.Scalar.{Bytes, scalar}
+use Rattle.digits.specs.Scalar.{Bytes, signedScalar}
 use Rattle.digits.specs.Two.{P, Q}
 use Rattle.forms.specs.Joint.{joint}
 use Rattle.recode.specs.Call.{wroteColumns, filled}
@@ -29,21 +28,21 @@ module _ (c : tie.After-joint) where
   -- what the joint call answers and leaves
   met :
       let a = asked c .args in
-      Returned card (a .k .now) (a .l .now) (a .k-digits .now) (a .l-digits .now) (wroteColumns (joint (pos (scalar (a .k .now))) (pos (scalar (a .l .now)))))
-      (filled (digitsOf P (a .k .now) (a .l .now)) (a .k-digits .now)) (filled (digitsOf Q (a .k .now) (a .l .now)) (a .l-digits .now))
+      Returned card (a .k .now) (a .k-sign) (a .l .now) (a .l-sign) (a .k-digits .now) (a .l-digits .now) (wroteColumns (joint (signedScalar (a .k .now) (a .k-sign)) (signedScalar (a .l .now) (a .l-sign))))
+      (filled (digitsOf P (a .k .now) (a .k-sign) (a .l .now) (a .l-sign)) (a .k-digits .now)) (filled (digitsOf Q (a .k .now) (a .k-sign) (a .l .now) (a .l-sign)) (a .l-digits .now))
   met =
       let a = asked c .args in
       let p = asked c .pre in
-      written card (a .k .now) (a .l .now) (a .k-digits .now) (a .l-digits .now) (p .0 .0) (omega (arith, p)) (wroteColumns (joint (pos (scalar (a .k .now))) (pos (scalar (a .l .now)))))
-      (filled (digitsOf P (a .k .now) (a .l .now)) (a .k-digits .now)) (filled (digitsOf Q (a .k .now) (a .l .now)) (a .l-digits .now)) (omega (arith, p)) refl refl refl
+      written card (a .k .now) (a .k-sign) (a .l .now) (a .l-sign) (a .k-digits .now) (a .l-digits .now) (p .0 .0) (omega (arith, p)) (wroteColumns (joint (signedScalar (a .k .now) (a .k-sign)) (signedScalar (a .l .now) (a .l-sign))))
+      (filled (digitsOf P (a .k .now) (a .k-sign) (a .l .now) (a .l-sign)) (a .k-digits .now)) (filled (digitsOf Q (a .k .now) (a .k-sign) (a .l .now) (a .l-sign)) (a .l-digits .now)) (omega (arith, p)) refl refl refl
 
-  answer : c .joint .result ≡ wroteColumns (joint (pos (scalar (asked c .args .k .now))) (pos (scalar (asked c .args .l .now))))
+  answer : c .joint .result ≡ wroteColumns (joint (signedScalar (asked c .args .k .now) (asked c .args .k-sign)) (signedScalar (asked c .args .l .now) (asked c .args .l-sign)))
   answer = c .joint .ensures .0 ∙ sym (met .0)
 
-  k-row : c .joint .last .1 .1 .0 ≡ filled (digitsOf P (asked c .args .k .now) (asked c .args .l .now)) (asked c .args .k-digits .now)
+  k-row : c .joint .last .1 .1 .1 .1 .0 ≡ filled (digitsOf P (asked c .args .k .now) (asked c .args .k-sign) (asked c .args .l .now) (asked c .args .l-sign)) (asked c .args .k-digits .now)
   k-row = c .joint .ensures .1 .0 ∙ sym (met .1 .0)
 
-  l-row : c .joint .last .1 .1 .1 .0 ≡ filled (digitsOf Q (asked c .args .k .now) (asked c .args .l .now)) (asked c .args .l-digits .now)
+  l-row : c .joint .last .1 .1 .1 .1 .1 .0 ≡ filled (digitsOf Q (asked c .args .k .now) (asked c .args .k-sign) (asked c .args .l .now) (asked c .args .l-sign)) (asked c .args .l-digits .now)
   l-row = c .joint .ensures .1 .1 .0 ∙ sym (met .1 .1 .0)
 
 write-codes-requires : tie.Need-write-codes-requires
@@ -51,7 +50,7 @@ write-codes-requires c κs =
     let j = c .before .before .before .before .before .before in
     let a = asked j .args in
     let p = asked j .pre in
-    asks (a .k .now) (a .l .now) P (a .places) (a .k-digits .now) (j .joint .last .1 .1 .0) (a .k-codes .now) (k-bytes j) (l-bytes j) (p .0 .1) (k-row j) (p .1 .1 .0)
+    asks (a .k .now) (a .k-sign) (a .l .now) (a .l-sign) P (a .places) (a .k-digits .now) (j .joint .last .1 .1 .1 .1 .0) (a .k-codes .now) (k-bytes j) (l-bytes j) (p .0 .1) (k-row j) (p .1 .1 .0)
     (omega (arith, p, j .joint .kept))
 
 write-codes-requires-2 : tie.Need-write-codes-requires-2
@@ -59,7 +58,7 @@ write-codes-requires-2 c κs =
     let j = c .before .before .before .before .before .before .before .before .before .before .before in
     let a = asked j .args in
     let p = asked j .pre in
-    asks (a .k .now) (a .l .now) Q (a .places) (a .l-digits .now) (j .joint .last .1 .1 .1 .0) (a .l-codes .now) (k-bytes j) (l-bytes j) (p .0 .1) (l-row j) (p .1 .1 .1)
+    asks (a .k .now) (a .k-sign) (a .l .now) (a .l-sign) Q (a .places) (a .l-digits .now) (j .joint .last .1 .1 .1 .1 .1 .0) (a .l-codes .now) (k-bytes j) (l-bytes j) (p .0 .1) (l-row j) (p .1 .1 .1)
     (omega (arith, p, j .joint .kept))
 
 same-length : tie.Need-same-length
@@ -87,9 +86,9 @@ returns c =
         (
           l-row j,
           (
-            leaves (a .k .now) (a .l .now) P (a .places) (a .k-digits .now) (j .joint .last .1 .1 .0) (a .k-codes .now) (k-bytes j) (l-bytes j) (p .0 .1) (k-row j) (p .1 .1 .0)
+            leaves (a .k .now) (a .k-sign) (a .l .now) (a .l-sign) P (a .places) (a .k-digits .now) (j .joint .last .1 .1 .1 .1 .0) (a .k-codes .now) (k-bytes j) (l-bytes j) (p .0 .1) (k-row j) (p .1 .1 .0)
                 (kw .last .1 .1 .0) (kw .ensures),
-            leaves (a .k .now) (a .l .now) Q (a .places) (a .l-digits .now) (j .joint .last .1 .1 .1 .0) (a .l-codes .now) (k-bytes j) (l-bytes j) (p .0 .1) (l-row j) (p .1 .1 .1)
+            leaves (a .k .now) (a .k-sign) (a .l .now) (a .l-sign) Q (a .places) (a .l-digits .now) (j .joint .last .1 .1 .1 .1 .1 .0) (a .l-codes .now) (k-bytes j) (l-bytes j) (p .0 .1) (l-row j) (p .1 .1 .1)
                 (lw .last .1 .1 .0) (lw .ensures),
           ),
         ),

@@ -16,7 +16,7 @@ recoded-requires c κs =
     let s = w .before .before .before .before .before in
     let a = s .before .before .args in
     subst RecodedFits (sym (w .joint .ensures .0))
-    (joint-fits (a .k .now) (a .l .now) (length (a .k-digits .now)) (length (a .l-digits .now))
+    (joint-fits (a .k .now) (a .k-sign) (a .l .now) (a .l-sign) (length (a .k-digits .now)) (length (a .l-digits .now))
     (λ i. s .before .shared-slice-known .given i .fits) (λ i. s .shared-slice-known2 .given i .fits))
 
 same-length : tie.Need-same-length

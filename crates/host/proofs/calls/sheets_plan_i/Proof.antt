@@ -16,7 +16,7 @@ written-requires c κs =
     let s = w .before .before .before in
     let a = s .before .before .args in
     subst SheetFits (sym (w .plan-i .ensures .0))
-    (i-fits (a .k .now) (a .l .now) (λ i. s .before .shared-slice-known .given i .fits) (λ i. s .shared-slice-known2 .given i .fits) (a .m1) (a .m2)
+    (i-fits (a .k .now) (a .k-sign) (a .l .now) (a .l-sign) (λ i. s .before .shared-slice-known .given i .fits) (λ i. s .shared-slice-known2 .given i .fits) (a .m1) (a .m2)
     (length (a .sheet .now)))
 
 same-length : tie.Need-same-length

@@ -16,7 +16,7 @@ written-requires c κs =
     let s = w .before .before .before in
     let a = s .before .before .args in
     subst SheetFits (sym (w .plan-j .ensures .0))
-    (j-fits (a .k .now) (a .l .now) (λ i. s .before .shared-slice-known .given i .fits) (λ i. s .shared-slice-known2 .given i .fits)
+    (j-fits (a .k .now) (a .k-sign) (a .l .now) (a .l-sign) (λ i. s .before .shared-slice-known .given i .fits) (λ i. s .shared-slice-known2 .given i .fits)
     (length (a .sheet .now)))
 
 same-length : tie.Need-same-length

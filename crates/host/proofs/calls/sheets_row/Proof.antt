@@ -16,7 +16,7 @@ recoded-requires c κs =
     let s = w .before .before .before in
     let a = s .before .args in
     subst RecodedFits (sym (w .row .ensures .0))
-    (row-fits (a .scalar .now) (a .m) (length (a .digits .now)) (λ i. s .shared-slice-known .given i .fits))
+    (row-fits (a .scalar .now) (a .sign) (a .m) (length (a .digits .now)) (λ i. s .shared-slice-known .given i .fits))
 
 same-length : tie.Need-same-length
 same-length c = search needs

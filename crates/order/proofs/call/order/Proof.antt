@@ -3,7 +3,7 @@ use mathlib.Core.Path.{sym, ap, _∙_}
 use mathlib.Core.List.{List}
 use Prim.Native.Nat.{ℕ}
 use Rattle.digits.specs.Limits.{card}
-use Rattle.sheet.specs.Spelling.Field.{isNumeral}
+use Rattle.sheet.specs.Spelling.Field.{isWhole}
 use Rattle.sheet.specs.Spelling.{comma, cut}
 use Rattle.order.specs.Order.{readFields}
 use Rattle.order.proofs.Orders.{Ordered, some-order, no-order}
@@ -37,8 +37,8 @@ field-requires-2 c κs = search needs
 serve-requires : tie.Need-serve-requires
 serve-requires c κs =
     let o = ordered (c .before .before .before .before) in (
-      ap (λ (f : List ℕ). isNumeral 16 132 f) (c .before .before .field .ensures) ∙ o .first,
-      (ap (λ (f : List ℕ). isNumeral 16 132 f) (c .before .field2 .ensures) ∙ o .second, c .before .before .before .before .before .before .before .before .if1 .left),
+      ap (λ (f : List ℕ). isWhole 16 132 f) (c .before .before .field .ensures) ∙ o .first,
+      (ap (λ (f : List ℕ). isWhole 16 132 f) (c .before .field2 .ensures) ∙ o .second, c .before .before .before .before .before .before .before .before .if1 .left),
     )
 
 enum-told : tie.Need-enum-told

@@ -3,44 +3,43 @@ use mathlib.Core.Path.{sym, ap}
 use native.Mathlib.Omega.{arith}
 use lib.ListN.{take}
 use lib.Seq.{length-take-le}
-use Rattle.sheet.specs.Numeral.{followed}
+use Rattle.sheet.specs.Spelling.Field.{wholeOf}
 use Rattle.writer.specs.Call.{number}
-use Rattle.order.proofs.Orders.{scalar-figures}
 use Rattle.order.proofs.Printed.{Answers, taken, sheet-printed, limit-printed, no-other}
 use borrow.Author.Needs.{needs}
 use Rattle.order.proofs.call.serve.Statement.{statement}
 use Rattle.order.proofs.call.serve.Tie as tie
 
-bytes-of-requires : tie.Need-bytes-of-requires
-bytes-of-requires c κs = scalar-figures (c .before .before .before .args .k .now) (c .before .before .before .pre .0)
+scalar-of-requires : tie.Need-scalar-of-requires
+scalar-of-requires c κs = c .before .before .before .pre .0
 
-bytes-of-requires-2 : tie.Need-bytes-of-requires-2
-bytes-of-requires-2 c κs = scalar-figures (c .before .before .before .before .args .l .now) (c .before .before .before .before .pre .1 .0)
+scalar-of-requires-2 : tie.Need-scalar-of-requires-2
+scalar-of-requires-2 c κs = c .before .before .before .before .pre .1 .0
 
 array-share-prefix-k-bytes : tie.Need-array-share-prefix-k-bytes
-array-share-prefix-k-bytes c = omega (arith, c .before .before .before .bytes-of .ensures)
+array-share-prefix-k-bytes c = omega (arith, c .before .before .before .scalar-of .ensures)
 
 slice-aggregate-cheapest : tie.Need-slice-aggregate-cheapest
-slice-aggregate-cheapest c = sym (length-take-le _ _ (omega (arith, c .before .before .before .before .bytes-of .ensures)))
+slice-aggregate-cheapest c = sym (length-take-le _ _ (omega (arith, c .before .before .before .before .scalar-of .ensures)))
 
 array-share-prefix-l-bytes : tie.Need-array-share-prefix-l-bytes
-array-share-prefix-l-bytes c = omega (arith, c .before .before .before .bytes-of2 .ensures)
+array-share-prefix-l-bytes c = omega (arith, c .before .before .before .scalar-of2 .ensures)
 
 slice-aggregate-cheapest-2 : tie.Need-slice-aggregate-cheapest-2
-slice-aggregate-cheapest-2 c = sym (length-take-le _ _ (omega (arith, c .before .before .before .before .bytes-of2 .ensures)))
+slice-aggregate-cheapest-2 c = sym (length-take-le _ _ (omega (arith, c .before .before .before .before .scalar-of2 .ensures)))
 
 cheapest-requires : tie.Need-cheapest-requires
 cheapest-requires c κs = search needs
 
 module _ (c : tie.After-cheapest) where
-  answers : Answers (take (c .before .before .before .before .before .before .before .bytes-of .result .len) (c .before .before .before .before .before .before .before .bytes-of .result .bytes)) (take (c .before .before .before .before .before .before .bytes-of2 .result .len) (c .before .before .before .before .before .before .bytes-of2 .result .bytes))
-      (c .before .before .before .before .before .before .before .before .before .before .before .args .out .now) (c .before .before .before .before .before .before .before .before .before .before .before .args .slots) (followed 16 0 (c .before .before .before .before .before .before .before .before .before .before .before .args .k .now)) (followed 16 0 (c .before .before .before .before .before .before .before .before .before .before .before .args .l .now)) (c .cheapest .result) (c .cheapest .last .1 .1 .1 .0)
+  answers : Answers (take (c .before .before .before .before .before .before .before .scalar-of .result .len) (c .before .before .before .before .before .before .before .scalar-of .result .bytes)) (c .before .before .before .before .before .before .before .scalar-of .result .sign) (take (c .before .before .before .before .before .before .scalar-of2 .result .len) (c .before .before .before .before .before .before .scalar-of2 .result .bytes)) (c .before .before .before .before .before .before .scalar-of2 .result .sign)
+      (c .before .before .before .before .before .before .before .before .before .before .before .args .out .now) (c .before .before .before .before .before .before .before .before .before .before .before .args .slots) (wholeOf 16 (c .before .before .before .before .before .before .before .before .before .before .before .args .k .now)) (wholeOf 16 (c .before .before .before .before .before .before .before .before .before .before .before .args .l .now)) (c .cheapest .result) (c .cheapest .last .1 .1 .1 .1 .1 .0)
   answers =
-      let f = c .before .before .before .before .before .before .before .bytes-of .ensures in
-      let s = c .before .before .before .before .before .before .bytes-of2 .ensures in
+      let f = c .before .before .before .before .before .before .before .scalar-of .ensures in
+      let s = c .before .before .before .before .before .before .scalar-of2 .ensures in
       record {
-        k-size = taken (c .before .before .before .before .before .before .before .bytes-of .result .len) (c .before .before .before .before .before .before .before .bytes-of .result .bytes) (f .0) (f .1 .0);
-        l-size = taken (c .before .before .before .before .before .before .bytes-of2 .result .len) (c .before .before .before .before .before .before .bytes-of2 .result .bytes) (s .0) (s .1 .0);
+        k-size = taken (c .before .before .before .before .before .before .before .scalar-of .result .len) (c .before .before .before .before .before .before .before .scalar-of .result .bytes) (f .0) (f .1 .0);
+        l-size = taken (c .before .before .before .before .before .before .scalar-of2 .result .len) (c .before .before .before .before .before .before .scalar-of2 .result .bytes) (s .0) (s .1 .0);
         room = c .before .before .before .before .before .before .before .before .before .before .before .pre .1 .1;
         k-is = f .1 .1;
         l-is = s .1 .1;
@@ -100,8 +99,8 @@ pub serve-spec : {M : Type 1} → statement M
 serve-spec =
     tie.close
     (tie.spec
-    bytes-of-requires
-    bytes-of-requires-2
+    scalar-of-requires
+    scalar-of-requires-2
     array-share-prefix-k-bytes
     slice-aggregate-cheapest
     array-share-prefix-l-bytes

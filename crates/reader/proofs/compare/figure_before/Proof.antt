@@ -11,8 +11,8 @@ use Rattle.reader.proofs.compare.figure_before.Tie as tie
 returns : tie.Need-returns
 returns c =
     let a = c .before .before .args in
-    let none = before-none (a .scalar .now) in
-    record { start = omega arith; is = ap (before (a .scalar .now)) (c .if1 .taken) ∙ omega (arith, none); small = omega arith }
+    let none = before-none (a .figures .now) in
+    record { start = omega arith; is = ap (before (a .figures .now)) (c .if1 .taken) ∙ omega (arith, none); small = omega arith }
 
 sub-start : tie.Need-sub-start
 sub-start c = search needs
@@ -34,8 +34,8 @@ returns-2 c =
     let e : a .end ≡ suc i = omega arith in
     record {
       start = omega arith;
-      is = ap (before (a .scalar .now)) e ∙ before-last (a .scalar .now) i (omega (arith, p .0)) ∙ omega (arith, c .worth-of .ensures);
-      small = omega (arith, c .worth-of .ensures, figure-small (a .scalar .now) i (p .1) (omega (arith, p .0)));
+      is = ap (before (a .figures .now)) e ∙ before-last (a .figures .now) i (omega (arith, p .0)) ∙ omega (arith, c .worth-of .ensures);
+      small = omega (arith, c .worth-of .ensures, figure-small (a .figures .now) i (p .1 .1) (omega (arith, p .0)));
     }
 
 pub figure-before-spec : {M : Type 1} → statement M

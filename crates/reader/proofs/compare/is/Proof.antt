@@ -1,106 +1,79 @@
--- `is` meets its contract. The loop's invariant: the limbs from i on, with what is carried to them, agree exactly if all do.
+-- `is` meets its contract: with a plus from the empty sum to the limbs, with a minus from the limbs to the empty sum.
 use native.Mathlib.Omega.{arith}
-use borrow.Author.Needs.{needs}
-use mathlib.Core.Path.{_≡_, ap, _∙_}
-use Prim.Native.Nat.{ℕ, _+_, _-_, _*_, _≤_}
+use mathlib.Core.Path.{_≡_, sym, ap, _∙_}
+use mathlib.Core.Bool.{true}
+use mathlib.Core.List.{List}
+use Prim.Native.Nat.{ℕ, _+_}
 use lib.Dec.{eqb}
-use lib.ListN.{length, drop}
+use Rattle.digits.specs.Limits.{card}
 use Rattle.sheet.specs.Numeral.{followed}
-use Rattle.survey.specs.Sum.{value, empty}
-use Rattle.reader.specs.Scalar.{before}
-use Rattle.reader.proofs.LimbTurns.{before-none, before-all, sum-turn, sum-stop, sum-end, sum-start, is-number}
+use Rattle.sheet.specs.Spelling.Field.{signOf, unsigned, isWhole}
+use Rattle.sheet.proofs.SignTurns.{whole-parts}
+use Rattle.survey.specs.Sum.{value}
+use Rattle.survey.proofs.Digits.{near-later}
+use Rattle.reader.specs.Scalar.{Figured}
+use Rattle.reader.proofs.LimbTurns.{is-plus, is-minus}
+use borrow.Author.Needs.{needs}
 use Rattle.reader.proofs.compare.is.Statement.{statement}
 use Rattle.reader.proofs.compare.is.Tie as tie
 
-abbrev Inv-loop : tie.InvT-loop
-Inv-loop limbs scalar end₀ left₀ right₀ i₀ end left right i =
-    (i ≤ 34) × (end ≡ length scalar - 4 * i) × (left ≤ 140737488355328) × (right ≤ 140737488355328) × (eqb (before scalar end + value (drop i empty) + left) (value (drop i limbs) + right) ≡ eqb (followed 16 0 scalar + value empty) (value limbs))
+-- what stands behind the sign of a scalar
+figured : (s f : List ℕ) → f ≡ unsigned s → isWhole 16 (card .figures) s ≡ true → Figured f
+figured s f e h = let p = whole-parts 16 132 s f e h in (p .few, p .all)
 
-abbrev μ-loop : tie.MeasureT-loop
-μ-loop limbs scalar end₀ left₀ right₀ i₀ end left right i = 34 - i
+empty-requires : tie.Need-empty-requires
+empty-requires c κs = search needs
 
-loop-holds : tie.Need-loop-holds Inv-loop μ-loop
-loop-holds c =
-    let a = c .before .before .args in (
-      omega arith,
-      omega arith,
-      omega arith,
-      omega arith,
-      ap (λ (n : ℕ). eqb (n + value empty + 0) (value (a .limbs .now) + 0)) (before-all (a .scalar .now)) ∙ sum-start (followed 16 0 (a .scalar .now)) (value empty) (value (a .limbs .now)),
-    )
+unsigned-requires : tie.Need-unsigned-requires
+unsigned-requires c κs = search needs
 
-limb-before-requires : tie.Need-limb-before-requires Inv-loop μ-loop
-limb-before-requires c κs = search needs
+sign-of-requires : tie.Need-sign-of-requires
+sign-of-requires c κs = search needs
 
-add-a : tie.Need-add-a Inv-loop μ-loop
-add-a c = omega (arith, c .before .limb-before .ensures .small)
+slice-aggregate-reaches : tie.Need-slice-aggregate-reaches
+slice-aggregate-reaches c = search needs
 
-add-a-2 : tie.Need-add-a-2 Inv-loop μ-loop
-add-a-2 c = omega (arith, c .before .limb-before .ensures .small, c .before .before .before .loop .inv .2)
+reaches-requires : tie.Need-reaches-requires
+reaches-requires c κs =
+    let a = c .before .before .before .before .before .before .before in
+    (near-later (c .before .before .before .before .empty .ensures .near) (omega arith), (a .pre .0, figured (a .args .field .now) _ (c .before .before .before .unsigned .ensures) (a .pre .1)))
 
-mul-b : tie.Need-mul-b Inv-loop μ-loop
-mul-b c = search needs
-
-shared-slice-read-b : tie.Need-shared-slice-read-b Inv-loop μ-loop
-shared-slice-read-b c = search needs
-
-add-b : tie.Need-add-b Inv-loop μ-loop
-add-b c =
-    let l = c .before .before .before .before .loop in
-    omega (arith, c .before .before .before .before .before .before .before .pre .0 .high (l .i) (omega arith), l .inv .3)
-
-returns : tie.Need-returns Inv-loop μ-loop
+returns : tie.Need-returns
 returns c = λ z h.
-    let s = c .before .before .before .before .before .before .before .before in
-    let l = c .before .before .before .before .before .loop in
-    let r = c .before .before .before .limb-before in
-    sum-stop (before (s .args .scalar .now) (l .end)) (before (s .args .scalar .now) (r .result .start)) (r .result .value) (r .ensures .is) (s .args .limbs .now) (l .i) (l .left) (l .right)
-    (omega arith) (omega (arith, s .pre .0 .long)) (c .if1 .taken)
-    ∙ l .inv .4 ∙ is-number _ (s .args .limbs .now) z (followed 16 0 (s .args .scalar .now)) h
+    let a = c .before .before .before .before .before .before .before .before .args in
+    let none = c .before .before .before .before .before .empty in
+    c .reaches .ensures
+    ∙ ap (λ (f : List ℕ). eqb (followed 16 0 f + value (none .result)) (value (a .limbs .now))) (c .before .before .before .before .unsigned .ensures)
+    ∙ is-plus (a .limbs .now) (none .result) (none .ensures) (signOf (a .field .now)) (followed 16 0 (unsigned (a .field .now))) z
+    (sym (c .before .before .before .sign-of .ensures .0) ∙ c .before .before .if1 .taken) h
 
-add-i : tie.Need-add-i Inv-loop μ-loop
-add-i c = search needs
+slice-aggregate-reaches-2 : tie.Need-slice-aggregate-reaches-2
+slice-aggregate-reaches-2 c = search needs
 
-loop-less : tie.Need-loop-less Inv-loop μ-loop
-loop-less c = search needs
+reaches-requires-2 : tie.Need-reaches-requires-2
+reaches-requires-2 c κs =
+    let a = c .before .before .before .before .before .before .before in
+    (a .pre .0, (near-later (c .before .before .before .before .empty .ensures .near) (omega arith), figured (a .args .field .now) _ (c .before .before .before .unsigned .ensures) (a .pre .1)))
 
-loop-again : tie.Need-loop-again Inv-loop μ-loop
-loop-again c =
-    let s = c .before .before .before .before .before .before .before .before in
-    let l = c .before .before .before .before .before .loop in
-    let r = c .before .before .before .limb-before in (
-      omega arith,
-      omega (arith, r .ensures .start, l .inv .1),
-      omega (arith, r .ensures .small, l .inv .2),
-      omega (arith, s .pre .0 .high (l .i) (omega arith), l .inv .3),
-      sum-turn (before (s .args .scalar .now) (l .end)) (before (s .args .scalar .now) (r .result .start)) (r .result .value) (r .ensures .is) (s .args .limbs .now) (l .i) (l .left) (l .right)
-          (omega arith) (omega (arith, s .pre .0 .long)) (c .if1 .left) ∙ l .inv .4,
-    )
-
-returns-2 : tie.Need-returns-2 Inv-loop μ-loop
+returns-2 : tie.Need-returns-2
 returns-2 c = λ z h.
-    let s = c .before .before .before .before in
-    let l = c .before .loop in
-    let none : l .end ≡ 0 = omega (arith, l .inv .1, s .pre .1 .0) in
-    sum-end (before (s .args .scalar .now) (l .end)) (s .args .limbs .now) (l .i) (l .left) (l .right) (ap (before (s .args .scalar .now)) none ∙ before-none (s .args .scalar .now))
-    (omega arith) (omega (arith, s .pre .0 .long))
-    ∙ l .inv .4 ∙ is-number _ (s .args .limbs .now) z (followed 16 0 (s .args .scalar .now)) h
+    let a = c .before .before .before .before .before .before .before .before .args in
+    let none = c .before .before .before .before .before .empty in
+    c .reaches2 .ensures
+    ∙ ap (λ (f : List ℕ). eqb (followed 16 0 f + value (a .limbs .now)) (value (none .result))) (c .before .before .before .before .unsigned .ensures)
+    ∙ is-minus (a .limbs .now) (none .result) (none .ensures) (signOf (a .field .now)) (followed 16 0 (unsigned (a .field .now))) z
+    (λ e. c .before .before .if1 .left (c .before .before .before .sign-of .ensures .0 ∙ e)) h
 
 pub is-spec : {M : Type 1} → statement M
 is-spec =
     tie.close
     (tie.spec
-    Inv-loop
-    μ-loop
-    loop-holds
-    limb-before-requires
-    add-a
-    add-a-2
-    mul-b
-    shared-slice-read-b
-    add-b
+    empty-requires
+    unsigned-requires
+    sign-of-requires
+    slice-aggregate-reaches
+    reaches-requires
     returns
-    add-i
-    loop-less
-    loop-again
+    slice-aggregate-reaches-2
+    reaches-requires-2
     returns-2)

@@ -1,18 +1,16 @@
 -- `is_right` meets its contract: each sum against its scalar.
-use mathlib.Core.Path.{_≡_, sym, ap, ap₂, subst, _∙_}
+use mathlib.Core.Path.{_≡_, sym, ap, ap₂, _∙_}
 use mathlib.Core.Bool.{Bool, true, _&&_}
 use mathlib.Core.List.{List}
-use Prim.Native.Nat.{ℕ, _≤_}
-use lib.IntN.{ℤ, pos}
-use lib.ListN.{length}
+use Prim.Native.Nat.{ℕ}
+use lib.IntN.{ℤ}
 use Rattle.digits.specs.Limits.{card}
-use Rattle.sheet.specs.Numeral.{figures, followed}
 use Rattle.sheet.specs.Spelling.{lines}
+use Rattle.sheet.specs.Spelling.Field.{isWhole, wholeOf}
 use Rattle.sheet.specs.Plan.{point}
 use Rattle.sheet.specs.Line.{Header}
 use Rattle.sheet.specs.Answer.{heading}
 use Rattle.sheet.specs.Questions.{unless, sameNumber, samePoint, result, wrong}
-use Rattle.sheet.proofs.FieldTurns.{numeral-parts}
 use Rattle.lines.specs.Coded.{headField, ScalarIn}
 use Rattle.lines.proofs.FirstLine.{head-scalars}
 use Rattle.survey.specs.Survey.{Clear}
@@ -20,9 +18,9 @@ use borrow.Author.Needs.{needs}
 use Rattle.reader.proofs.judge.is_right.Statement.{statement}
 use Rattle.reader.proofs.judge.is_right.Tie as tie
 
--- a field that is a scalar has at most 132 figures
-figured : (s : List ℕ) (k : ℕ) (f : List ℕ) → f ≡ headField s k → ScalarIn s k → (length f ≤ 132) × (figures 16 f ≡ true)
-figured s k f e h = subst (λ (f : List ℕ). (length f ≤ 132) × (figures 16 f ≡ true)) (sym e) (numeral-parts 16 132 (headField s k) h)
+-- a field of the first line is a scalar
+is-scalar : (s : List ℕ) (k : ℕ) (f : List ℕ) → f ≡ headField s k → ScalarIn s k → isWhole 16 (card .figures) f ≡ true
+is-scalar s k f e h = ap (isWhole 16 (card .figures)) e ∙ h
 
 head-field-requires : tie.Need-head-field-requires
 head-field-requires c κs = search needs
@@ -31,7 +29,7 @@ is-requires : tie.Need-is-requires
 is-requires c κs =
     let s = c .before .before .before .before .args .sheet .now in
     let p = c .before .before .before .before .pre in
-    (p .1 .0 .near, figured s 7 _ (c .head-field .ensures) (head-scalars s (p .0 .head) (p .0 .rest) (p .0 .heads) .is-k))
+    (p .1 .0 .near, is-scalar s 7 _ (c .head-field .ensures) (head-scalars s (p .0 .head) (p .0 .rest) (p .0 .heads) .is-k))
 
 head-field-requires-2 : tie.Need-head-field-requires-2
 head-field-requires-2 c κs = search needs
@@ -40,17 +38,17 @@ is-requires-2 : tie.Need-is-requires-2
 is-requires-2 c κs =
     let s = c .before .before .before .before .before .before .before .args .sheet .now in
     let p = c .before .before .before .before .before .before .before .pre in
-    (p .1 .1 .near, figured s 8 _ (c .head-field2 .ensures) (head-scalars s (p .0 .head) (p .0 .rest) (p .0 .heads) .is-l))
+    (p .1 .1 .near, is-scalar s 8 _ (c .head-field2 .ensures) (head-scalars s (p .0 .head) (p .0 .rest) (p .0 .heads) .is-l))
 
 module _ (s : List ℕ) (p : Clear s) where
   -- question 11, put to the header's own scalars
-  asked : (b : Bool) → b ≡ samePoint (result (lines card s)) (point (pos (p .head .k)) (pos (p .head .l))) → unless b 1 ≡ wrong (heading (lines card s)) (lines card s)
+  asked : (b : Bool) → b ≡ samePoint (result (lines card s)) (point (p .head .k) (p .head .l)) → unless b 1 ≡ wrong (heading (lines card s)) (lines card s)
   unfolding wrong
-  asked b e = ap (λ (t : Bool). unless t 1) e ∙ ap (λ (h : Header). unless (samePoint (result (lines card s)) (point (pos (h .k)) (pos (h .l)))) 1) (sym (ap heading (p .heads)))
+  asked b e = ap (λ (t : Bool). unless t 1) e ∙ ap (λ (h : Header). unless (samePoint (result (lines card s)) (point (h .k) (h .l))) 1) (sym (ap heading (p .heads)))
 
-  -- a sum against the number of its scalar
-  test : {m : ℕ} (k : ℕ) (x : ℤ) (f : List ℕ) (b : Bool) → f ≡ headField s k → followed 16 0 (headField s k) ≡ m → b ≡ sameNumber x (pos (followed 16 0 f)) → b ≡ sameNumber x (pos m)
-  test k x f b e z g = g ∙ ap (λ (n : ℕ). sameNumber x (pos n)) (ap (followed 16 0) e ∙ z)
+  -- a sum against its scalar
+  test : {m : ℤ} (k : ℕ) (x : ℤ) (f : List ℕ) (b : Bool) → f ≡ headField s k → wholeOf 16 (headField s k) ≡ m → b ≡ sameNumber x (wholeOf 16 f) → b ≡ sameNumber x m
+  test k x f b e z g = g ∙ ap (sameNumber x) (ap (wholeOf 16) e ∙ z)
 
 returns : tie.Need-returns
 returns c =
@@ -72,7 +70,7 @@ returns-2 c =
     let z = head-scalars s (h .head) (h .rest) (h .heads) in
     let x = result (lines card s) in
     asked s h _
-    (ap (λ (b : Bool). b && sameNumber (x .q) (pos (h .head .l)))
+    (ap (λ (b : Bool). b && sameNumber (x .q) (h .head .l))
     (sym (c .if1 .left) ∙ test s h 7 (x .p) _ _ (c .before .before .head-field .ensures) (z .k) (c .before .is .ensures (x .p) (a .pre .1 .0))))
 
 pub is-right-spec : {M : Type 1} → statement M

@@ -42,7 +42,7 @@ add-room c = omega (arith, c .larger .ensures, few (c .before))
 returns : tie.Need-returns
 returns c =
     let a = c .before .before .before .before .before .before .before .before .args in
-    no-first card (a .k .now) (a .l .now) (a .k-digits .now) (a .l-digits .now) (sizes (c .before .before)) (omega (arith, c .if2 .taken, c .before .larger .ensures))
+    no-first card (a .k .now) (a .k-sign) (a .l .now) (a .l-sign) (a .k-digits .now) (a .l-digits .now) (sizes (c .before .before)) (omega (arith, c .if2 .taken, c .before .larger .ensures))
 
 -- the first buffer has room
 module _ (c : tie.Else2) where
@@ -52,10 +52,10 @@ module _ (c : tie.Else2) where
 returns-2 : tie.Need-returns-2
 returns-2 c =
     let a = c .before .before .before .before .before .before .before .before .before .args in
-    no-second card (a .k .now) (a .l .now) (a .k-digits .now) (a .l-digits .now) (sizes (c .before .before .before)) (k-room (c .before)) (omega (arith, c .if3 .taken, c .before .before .larger .ensures))
+    no-second card (a .k .now) (a .k-sign) (a .l .now) (a .l-sign) (a .k-digits .now) (a .l-digits .now) (sizes (c .before .before .before)) (k-room (c .before)) (omega (arith, c .if3 .taken, c .before .before .larger .ensures))
 
-write-joint-requires : tie.Need-write-joint-requires
-write-joint-requires c κs = (few (c .before .before .before .before .before), (k-room (c .before .before .before), omega (arith, c .before .before .if3 .left, c .before .before .before .before .larger .ensures)))
+write-signed-joint-requires : tie.Need-write-signed-joint-requires
+write-signed-joint-requires c κs = (few (c .before .before .before .before .before), (k-room (c .before .before .before), omega (arith, c .before .before .if3 .left, c .before .before .before .before .larger .ensures)))
 
 same-length : tie.Need-same-length
 same-length c = search needs
@@ -66,14 +66,14 @@ same-length-2 c = search needs
 returns-3 : tie.Need-returns-3
 returns-3 c =
     let a = c .before .before .before .before .before .before .before .before .before .before .before .before .before .before .before .before .args in
-    let w = c .before .before .before .before .write-joint in
-    written card (a .k .now) (a .l .now) (a .k-digits .now) (a .l-digits .now) (sizes (c .before .before .before .before .before .before .before .before .before .before)) (k-room (c .before .before .before .before .before .before .before .before))
-    (w .result) (w .last .1 .1 .0) (w .last .1 .1 .1 .0) (omega (arith, c .before .before .before .before .before .before .before .if3 .left, c .before .before .before .before .before .before .before .before .before .larger .ensures)) (w .ensures .0) (w .ensures .1 .0) (w .ensures .1 .1)
+    let w = c .before .before .before .before .write-signed-joint in
+    written card (a .k .now) (a .k-sign) (a .l .now) (a .l-sign) (a .k-digits .now) (a .l-digits .now) (sizes (c .before .before .before .before .before .before .before .before .before .before)) (k-room (c .before .before .before .before .before .before .before .before))
+    (w .result) (w .last .1 .1 .1 .1 .0) (w .last .1 .1 .1 .1 .1 .0) (omega (arith, c .before .before .before .before .before .before .before .if3 .left, c .before .before .before .before .before .before .before .before .before .larger .ensures)) (w .ensures .0) (w .ensures .1 .0) (w .ensures .1 .1)
 
 returns-4 : tie.Need-returns-4
 returns-4 c =
     let a = c .before .before .before .before .before .before .args in
-    bad-scalar card (a .k .now) (a .l .now) (a .k-digits .now) (a .l-digits .now) (sym (c .before .are-scalars .ensures) ∙ c .if1 .left)
+    bad-scalar card (a .k .now) (a .k-sign) (a .l .now) (a .l-sign) (a .k-digits .now) (a .l-digits .now) (sym (c .before .are-scalars .ensures) ∙ c .if1 .left)
 
 pub joint-spec : {M : Type 1} → statement M
 joint-spec =
@@ -85,7 +85,7 @@ joint-spec =
     add-room
     returns
     returns-2
-    write-joint-requires
+    write-signed-joint-requires
     same-length
     same-length-2
     returns-3

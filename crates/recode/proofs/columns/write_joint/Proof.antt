@@ -69,7 +69,7 @@ module _ (c : tie.After-clear2) where
   short : length (joint (pos (little (c .before .before .before .before .before .before .before .copied .result))) (pos (little (c .before .before .before .before .before .before .copied2 .result)))) ≤ c .before .before .before .before .before .before .before .before .larger .result + 1
   short =
       rw (k-number, l-number)
-      (omega (arith, joint-length (scalar (c .before .before .before .before .before .before .before .before .before .before .before .before .before .before .before .args .k .now)) (scalar (c .before .before .before .before .before .before .before .before .before .before .before .before .before .before .before .args .l .now)), c .before .before .before .before .before .before .before .before .before .before .bits-of .ensures, c .before .before .before .before .before .before .before .before .before .bits-of2 .ensures, c .before .before .before .before .before .before .before .before .larger .ensures))
+      (omega (arith, joint-length (pos (scalar (c .before .before .before .before .before .before .before .before .before .before .before .before .before .before .before .args .k .now))) (pos (scalar (c .before .before .before .before .before .before .before .before .before .before .before .before .before .before .before .args .l .now))), c .before .before .before .before .before .before .before .before .before .before .bits-of .ensures, c .before .before .before .before .before .before .before .before .before .bits-of2 .ensures, c .before .before .before .before .before .before .before .before .larger .ensures))
 
   k-first : length (take (c .before .before .before .before .before .before .before .before .larger .result + 1) (c .before .before .before .before .clear .last .0)) ≡ c .before .before .before .before .before .before .before .before .larger .result + 1
   k-first = first-length (c .before .before .before .before .before .before .before .before .before .before .before .before .before .before .before .args .k-out .now) (c .before .before .before .before .clear .last .0) (c .before .before .before .before .before .before .before .before .larger .result + 1) (c .before .before .before .before .clear .ensures) k-enough

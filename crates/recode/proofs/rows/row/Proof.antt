@@ -42,7 +42,7 @@ add-if3 c = omega (arith, few (c .before .before))
 returns : tie.Need-returns
 returns c =
     let a = c .before .before .before .before .before .before .before .args in
-    no-room card (a .scalar .now) (a .m) (a .digits .now) (size (c .before .before .before)) (window (c .before)) (c .if3 .taken)
+    no-room card (a .scalar .now) (a .sign) (a .m) (a .digits .now) (size (c .before .before .before)) (window (c .before)) (c .if3 .taken)
 
 -- so m is 1 to 31
 module _ (c : tie.Else3) where
@@ -51,11 +51,11 @@ module _ (c : tie.Else3) where
       let (odd, within) = window-parts (c .before .before .before .before .before .before .before .args .m) (window (c .before)) in
       (omega arith, within)
 
-cast-write-row : tie.Need-cast-write-row
-cast-write-row c = omega (arith, bounds c)
+cast-write-signed-row : tie.Need-cast-write-signed-row
+cast-write-signed-row c = omega (arith, bounds c)
 
-write-row-requires : tie.Need-write-row-requires
-write-row-requires c κs = let b = bounds (c .before) in (few (c .before .before .before .before), (b .0, (b .1, omega (arith, c .before .if3 .left))))
+write-signed-row-requires : tie.Need-write-signed-row-requires
+write-signed-row-requires c κs = let b = bounds (c .before) in (few (c .before .before .before .before), (b .0, (b .1, omega (arith, c .before .if3 .left))))
 
 same-length : tie.Need-same-length
 same-length c = search needs
@@ -63,19 +63,19 @@ same-length c = search needs
 returns-2 : tie.Need-returns-2
 returns-2 c =
     let a = c .before .before .before .before .before .before .before .before .before .before .before .args in
-    let w = c .before .before .write-row in
-    written card (a .scalar .now) (a .m) (a .digits .now) (size (c .before .before .before .before .before .before .before)) (window (c .before .before .before .before .before)) (w .result) (w .last .1 .1 .0)
+    let w = c .before .before .write-signed-row in
+    written card (a .scalar .now) (a .sign) (a .m) (a .digits .now) (size (c .before .before .before .before .before .before .before)) (window (c .before .before .before .before .before)) (w .result) (w .last .1 .1 .1 .0)
     (omega (arith, c .before .before .before .before .if3 .left)) (w .ensures .0) (w .ensures .1)
 
 returns-3 : tie.Need-returns-3
 returns-3 c =
     let a = c .before .before .before .before .before .before .args in
-    bad-window card (a .scalar .now) (a .m) (a .digits .now) (size (c .before .before)) (sym (c .before .is-window .ensures) ∙ c .if2 .left)
+    bad-window card (a .scalar .now) (a .sign) (a .m) (a .digits .now) (size (c .before .before)) (sym (c .before .is-window .ensures) ∙ c .if2 .left)
 
 returns-4 : tie.Need-returns-4
 returns-4 c =
     let a = c .before .before .before .before .args in
-    bad-scalar card (a .scalar .now) (a .m) (a .digits .now) (sym (c .before .is-scalar .ensures) ∙ c .if1 .left)
+    bad-scalar card (a .scalar .now) (a .sign) (a .m) (a .digits .now) (sym (c .before .is-scalar .ensures) ∙ c .if1 .left)
 
 pub row-spec : {M : Type 1} → statement M
 row-spec =
@@ -86,8 +86,8 @@ row-spec =
     mul-if3
     add-if3
     returns
-    cast-write-row
-    write-row-requires
+    cast-write-signed-row
+    write-signed-row-requires
     same-length
     returns-2
     returns-3

@@ -56,7 +56,7 @@ module _ (c : tie.After-clear) where
   short =
       let s = c .before .before .before .before .before .before .args .scalar .now in
       let m = c .before .before .before .before .before .before .args .m in
-      rw number (omega (arith, row-length m (scalar s) (c .before .before .before .before .before .before .pre .1 .0), c .before .before .before .bits-of .ensures))
+      rw number (omega (arith, row-length m (pos (scalar s)) (c .before .before .before .before .before .before .pre .1 .0), c .before .before .before .bits-of .ensures))
 
 slice-relend-prefix-write-digits : tie.Need-slice-relend-prefix-write-digits
 slice-relend-prefix-write-digits c =

@@ -2,7 +2,7 @@
 use mathlib.Core.Path.{ap, _∙_}
 use mathlib.Core.List.{List}
 use Prim.Native.Nat.{ℕ}
-use Rattle.sheet.specs.Spelling.Field.{isNumeral}
+use Rattle.sheet.specs.Spelling.Field.{isWhole}
 use borrow.Author.Needs.{needs}
 use Rattle.sheet.proofs.fields.is_scalar_at.Statement.{statement}
 use Rattle.sheet.proofs.fields.is_scalar_at.Tie as tie
@@ -10,11 +10,11 @@ use Rattle.sheet.proofs.fields.is_scalar_at.Tie as tie
 field-requires : tie.Need-field-requires
 field-requires c κs = search needs
 
-is-numeral-requires : tie.Need-is-numeral-requires
-is-numeral-requires c κs = search needs
+is-scalar-requires : tie.Need-is-scalar-requires
+is-scalar-requires c κs = search needs
 
 returns : tie.Need-returns
-returns c = c .is-numeral .ensures ∙ ap (λ (f : List ℕ). isNumeral 16 132 f) (c .before .field .ensures)
+returns c = c .is-scalar .ensures ∙ ap (λ (f : List ℕ). isWhole 16 132 f) (c .before .field .ensures)
 
 pub is-scalar-at-spec : {M : Type 1} → statement M
-is-scalar-at-spec = tie.close (tie.spec field-requires is-numeral-requires returns)
+is-scalar-at-spec = tie.close (tie.spec field-requires is-scalar-requires returns)

@@ -25,7 +25,7 @@ value-of-requires : tie.Need-value-of-requires
 value-of-requires c κs =
     let s = c .before .before .before .before in
     let p = numeral-parts 10 (min (s .args .most) 4) (s .args .field .now) (tested (c .before) ∙ c .if1 .taken) in
-    (omega (arith, p .0), p .1)
+    (omega (arith, p .few), p .all)
 
 returns : tie.Need-returns
 returns c =

@@ -1,6 +1,6 @@
 -- `put_header` meets its contract: its letters, its decimals and its scalars (SheetBytes).
 use mathlib.Core.Path.{sym, subst}
-use Rattle.digits.specs.Scalar.{scalar}
+use Rattle.digits.specs.Scalar.{signedScalar}
 use Rattle.writer.specs.Body.Parts.{Room}
 use Rattle.writer.proofs.SheetBytes.{header-parts}
 use Rattle.writer.proofs.Puts.{put-append, put-same, room-first, room-second}
@@ -21,14 +21,14 @@ put-letters-requires : tie.Need-put-letters-requires
 put-letters-requires c κs =
     let m = c in
     let a = m .before .before .before .before .before .before .before in
-    room-first _ (subst (Room (a .args .out .now) (a .args .at)) (header-parts (a .args .plan) (m .letter-of .result) (m .before .before .slots .result) (a .args .additions) (a .args .doublings) (scalar (a .args .k .now)) (scalar (a .args .l .now)) (m .before .before .before .limits .result) (m .letter-of .ensures) (m .before .before .before .limits .ensures) (m .before .before .slots .ensures)) (a .pre))
+    room-first _ (subst (Room (a .args .out .now) (a .args .at)) (header-parts (a .args .plan) (m .letter-of .result) (m .before .before .slots .result) (a .args .additions) (a .args .doublings) (signedScalar (a .args .k .now) (a .args .k-sign)) (signedScalar (a .args .l .now) (a .args .l-sign)) (m .before .before .before .limits .result) (m .letter-of .ensures) (m .before .before .before .limits .ensures) (m .before .before .slots .ensures)) (a .pre))
 
 put-decimals-requires : tie.Need-put-decimals-requires
 put-decimals-requires c κs =
     let n = c .before .before .before in
     let m = n .before in
     let a = m .before .before .before .before .before .before .before in
-    room-first _ (room-second (n .put-letters .ensures) _ (subst (Room (a .args .out .now) (a .args .at)) (header-parts (a .args .plan) (m .letter-of .result) (m .before .before .slots .result) (a .args .additions) (a .args .doublings) (scalar (a .args .k .now)) (scalar (a .args .l .now)) (m .before .before .before .limits .result) (m .letter-of .ensures) (m .before .before .before .limits .ensures) (m .before .before .slots .ensures)) (a .pre)))
+    room-first _ (room-second (n .put-letters .ensures) _ (subst (Room (a .args .out .now) (a .args .at)) (header-parts (a .args .plan) (m .letter-of .result) (m .before .before .slots .result) (a .args .additions) (a .args .doublings) (signedScalar (a .args .k .now) (a .args .k-sign)) (signedScalar (a .args .l .now) (a .args .l-sign)) (m .before .before .before .limits .result) (m .letter-of .ensures) (m .before .before .before .limits .ensures) (m .before .before .slots .ensures)) (a .pre)))
 
 put-scalars-requires : tie.Need-put-scalars-requires
 put-scalars-requires c κs =
@@ -36,7 +36,7 @@ put-scalars-requires c κs =
     let n = d .before .before .before .before in
     let m = n .before in
     let a = m .before .before .before .before .before .before .before in
-    room-second (d .put-decimals .ensures) _ (room-second (n .put-letters .ensures) _ (subst (Room (a .args .out .now) (a .args .at)) (header-parts (a .args .plan) (m .letter-of .result) (m .before .before .slots .result) (a .args .additions) (a .args .doublings) (scalar (a .args .k .now)) (scalar (a .args .l .now)) (m .before .before .before .limits .result) (m .letter-of .ensures) (m .before .before .before .limits .ensures) (m .before .before .slots .ensures)) (a .pre)))
+    room-second (d .put-decimals .ensures) _ (room-second (n .put-letters .ensures) _ (subst (Room (a .args .out .now) (a .args .at)) (header-parts (a .args .plan) (m .letter-of .result) (m .before .before .slots .result) (a .args .additions) (a .args .doublings) (signedScalar (a .args .k .now) (a .args .k-sign)) (signedScalar (a .args .l .now) (a .args .l-sign)) (m .before .before .before .limits .result) (m .letter-of .ensures) (m .before .before .before .limits .ensures) (m .before .before .slots .ensures)) (a .pre)))
 
 same-length : tie.Need-same-length
 same-length c = search needs
@@ -48,7 +48,7 @@ returns c =
     let n = d .before .before .before .before in
     let m = n .before in
     let a = m .before .before .before .before .before .before .before in
-    put-same (sym (header-parts (a .args .plan) (m .letter-of .result) (m .before .before .slots .result) (a .args .additions) (a .args .doublings) (scalar (a .args .k .now)) (scalar (a .args .l .now)) (m .before .before .before .limits .result) (m .letter-of .ensures) (m .before .before .before .limits .ensures) (m .before .before .slots .ensures))) (put-append (n .put-letters .ensures) (put-append (d .put-decimals .ensures) (s .put-scalars .ensures)))
+    put-same (sym (header-parts (a .args .plan) (m .letter-of .result) (m .before .before .slots .result) (a .args .additions) (a .args .doublings) (signedScalar (a .args .k .now) (a .args .k-sign)) (signedScalar (a .args .l .now) (a .args .l-sign)) (m .before .before .before .limits .result) (m .letter-of .ensures) (m .before .before .before .limits .ensures) (m .before .before .slots .ensures))) (put-append (n .put-letters .ensures) (put-append (d .put-decimals .ensures) (s .put-scalars .ensures)))
 
 pub put-header-spec : {M : Type 1} → statement M
 put-header-spec =

@@ -56,8 +56,8 @@ asked c = known c .before .before
 add-weight : tie.Need-add-weight
 add-weight c =
     let a = asked c .args in
-    let p = row-short card (a .k .now) (a .m1) 529 (λ i. known c .before .shared-slice-known .given i .fits) in
-    let q = row-short card (a .l .now) (a .m2) 529 (λ i. known c .shared-slice-known2 .given i .fits) in
+    let p = row-short card (a .k .now) (a .k-sign) (a .m1) 529 (λ i. known c .before .shared-slice-known .given i .fits) in
+    let q = row-short card (a .l .now) (a .l-sign) (a .m2) 529 (λ i. known c .shared-slice-known2 .given i .fits) in
     omega (arith, c .before .weight .ensures, c .weight2 .ensures, ap weightWritten (first c .row .ensures .0), ap weightWritten (second c .row2 .ensures .0), p .length-most, p .weight-most, q .length-most, q .weight-most)
 
 write-sheet-requires : tie.Need-write-sheet-requires
@@ -67,19 +67,21 @@ write-sheet-requires c κs =
     let a = asked w in
     let k = a .args .k .now in
     let l = a .args .l .now in
+    let k-sign = a .args .k-sign in
+    let l-sign = a .args .l-sign in
     let m1 = a .args .m1 in
     let m2 = a .args .m2 in
     let z = and-eq-true-iff (sized card k) (sized card l) .0 (a .pre .0) in
     let counts =
-    rows-counts k l m1 m2 (a .pre .0) (a .pre .1 .0) (first w .row .ensures .0) (second w .row2 .ensures .0)
+    rows-counts k k-sign l l-sign m1 m2 (a .pre .0) (a .pre .1 .0) (first w .row .ensures .0) (second w .row2 .ensures .0)
     (n .larger .ensures ∙ ap₂ max (n .before .before .places .ensures) (n .before .places2 .ensures))
     (ap₂ (λ (x y : ℕ). x + y) (w .before .weight .ensures) (w .weight2 .ensures))
     in
     record {
       valid = windows-valid m1 m2 (a .pre .1 .0);
-      k-bounded = in-bounds k (λ i. known w .before .shared-slice-known .given i .fits) (z .0);
-      l-bounded = in-bounds l (λ i. known w .shared-slice-known2 .given i .fits) (z .1);
-      held = rows-hold k l _ _ m1 m2 (a .pre .0) (a .pre .1 .0) refl refl (first w .row .ensures .1 .0) (second w .row2 .ensures .1 .0);
+      k-bounded = in-bounds k k-sign (λ i. known w .before .shared-slice-known .given i .fits) (z .0);
+      l-bounded = in-bounds l l-sign (λ i. known w .shared-slice-known2 .given i .fits) (z .1);
+      held = rows-hold k k-sign l l-sign _ _ m1 m2 (a .pre .0) (a .pre .1 .0) refl refl (first w .row .ensures .1 .0) (second w .row2 .ensures .1 .0);
       long = counts .0;
       heavy = counts .1;
       room = a .pre .1 .1;

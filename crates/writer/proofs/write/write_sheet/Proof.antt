@@ -5,7 +5,7 @@ use Prim.Native.Nat.{ℕ, _+_, _≤_}
 use native.Mathlib.Nat.{zero-add}
 use native.Mathlib.Omega.{arith}
 use lib.ListN.{length}
-use Rattle.digits.specs.Scalar.{scalar}
+use Rattle.digits.specs.Scalar.{signedScalar}
 use Rattle.written.specs.Written.Accepted.{few-doublings}
 use Rattle.written.specs.Written.{written, writtenAdditions}
 use Rattle.writer.specs.declared.answer.Sheet.the-variants.{Written}
@@ -19,15 +19,15 @@ use Rattle.writer.proofs.write.write_sheet.Tie as tie
 -- the parts of the sheet, and their room
 module _ (c : tie.After-less-one2) where
   bytes : List ℕ
-  bytes = let a = c .before .before .before .before .before .before .before .args in written (a .plan) (scalar (a .k .now)) (scalar (a .l .now))
+  bytes = let a = c .before .before .before .before .before .before .before .args in written (a .plan) (signedScalar (a .k .now) (a .k-sign)) (signedScalar (a .l .now) (a .l-sign))
 
   parts : List ℕ
   parts =
       let a = c .before .before .before .before .before .before .before .args in
       partsOf (a .plan) (c .before .before .before .table-additions .result + c .before .before .less-one .result) (c .before .table-doublings .result + c .less-one2 .result)
-      (scalar (a .k .now)) (scalar (a .l .now)) (a .p .now) (a .q .now) (a .places)
+      (signedScalar (a .k .now) (a .k-sign)) (signedScalar (a .l .now) (a .l-sign)) (a .p .now) (a .q .now) (a .places)
 
-  additions : c .before .before .before .table-additions .result + c .before .before .less-one .result ≡ writtenAdditions (c .before .before .before .before .before .before .before .args .plan) (scalar (c .before .before .before .before .before .before .before .args .k .now)) (scalar (c .before .before .before .before .before .before .before .args .l .now))
+  additions : c .before .before .before .table-additions .result + c .before .before .less-one .result ≡ writtenAdditions (c .before .before .before .before .before .before .before .args .plan) (signedScalar (c .before .before .before .before .before .before .before .args .k .now) (c .before .before .before .before .before .before .before .args .k-sign)) (signedScalar (c .before .before .before .before .before .before .before .args .l .now) (c .before .before .before .before .before .before .before .args .l-sign))
   additions =
       let a = c .before .before .before .before .before .before .before in
       additions-are (a .pre) (c .before .before .before .table-additions .result) (c .before .before .less-one .result)

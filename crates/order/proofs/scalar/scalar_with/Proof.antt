@@ -1,18 +1,18 @@
--- `bytes_of` meets its contract. The loop's invariant: the bytes so far are the number of two figures for each of them.
+-- `scalar_with` meets its contract. The loop's invariant: the bytes so far are the number of two figures for each of them.
 use mathlib.Core.Path.{_≡_, refl, _∙_}
 use mathlib.Core.List.{_++_}
 use Prim.Native.Nat.{_+_, _-_, _/_, _%_, _≤_}
 use native.Mathlib.Omega.{arith}
 use lib.ListN.{length, replicate}
 use Rattle.order.proofs.Hexadecimal.{Made, made-none, made-more, made-all, padded-figures, padded-length}
-use Rattle.order.proofs.scalar.bytes_of.Statement.{statement}
-use Rattle.order.proofs.scalar.bytes_of.Tie as tie
+use Rattle.order.proofs.scalar.scalar_with.Statement.{statement}
+use Rattle.order.proofs.scalar.scalar_with.Tie as tie
 
 abbrev Inv-loop : tie.InvT-loop
-Inv-loop field pad len bytes₀ i₀ bytes i = (i ≤ len) × Made (replicate pad 48 ++ field) bytes i
+Inv-loop sign field pad len bytes₀ i₀ bytes i = (i ≤ len) × Made (replicate pad 48 ++ field) bytes i
 
 abbrev μ-loop : tie.MeasureT-loop
-μ-loop field pad len bytes₀ i₀ bytes i = len - i
+μ-loop sign field pad len bytes₀ i₀ bytes i = len - i
 
 add-len : tie.Need-add-len Inv-loop μ-loop
 add-len c = omega (arith, c .before .pre)
@@ -67,11 +67,11 @@ returns c =
     let len = (length (c .before .before .before .args .field .now) + length (c .before .before .before .args .field .now) % 2) / 2 in
     let all : c .before .loop .i ≡ (length (c .before .before .before .args .field .now) + length (c .before .before .before .args .field .now) % 2) / 2 = omega arith in (
       omega (arith, c .before .before .before .pre),
-      (c .before .loop .inv .1 .long, made-all (replicate pad 48 ++ f) (c .before .loop .bytes) len (omega (arith, padded-length pad f)) (rw all at (c .before .loop .inv .1)) ∙ padded-figures pad f),
+      (c .before .loop .inv .1 .long, (made-all (replicate pad 48 ++ f) (c .before .loop .bytes) len (omega (arith, padded-length pad f)) (rw all at (c .before .loop .inv .1)) ∙ padded-figures pad f, refl)),
     )
 
-pub bytes-of-spec : {M : Type 1} → statement M
-bytes-of-spec =
+pub scalar-with-spec : {M : Type 1} → statement M
+scalar-with-spec =
     tie.close
     (tie.spec
     Inv-loop
