@@ -21,33 +21,38 @@ use Rattle.sheet.proofs.FieldTurns.{Numeral, numeral-value, numeral-par
 
 -- ── the first byte ──────────────────────────────────────────────────────────────────────────
 
--- a sign is told by the first byte, and stands in the field
-abbrev pub Sign : List ℕ → ℕ → Type 0
-Sign s n = (n ≡ signOf s) × (n ≤ length s)
-
-pub sign-none : (s : List ℕ) → length s ≡ 0 → Sign s 0
-sign-none [] h = (refl, omega arith)
+pub sign-none : (s : List ℕ) → length s ≡ 0 → 0 ≡ signOf s
+sign-none [] h = refl
 sign-none (c ∷ s) h = absurd (omega arith)
 
-pub sign-minus : (s : List ℕ) → length s ≢ 0 → getD s 0 0 ≡ minus → Sign s 1
+pub sign-minus : (s : List ℕ) → length s ≢ 0 → getD s 0 0 ≡ minus → 1 ≡ signOf s
 sign-minus [] h e = absurd (h refl)
-sign-minus (c ∷ s) h e = (rw (eq-eqb c minus e), omega arith)
+sign-minus (c ∷ s) h e = rw (eq-eqb c minus e)
 
-pub sign-plain : (s : List ℕ) → getD s 0 0 ≢ minus → Sign s 0
-sign-plain [] n = (refl, omega arith)
-sign-plain (c ∷ s) n = (rw (ne-eqb c minus n), omega arith)
+pub sign-plain : (s : List ℕ) → getD s 0 0 ≢ minus → 0 ≡ signOf s
+sign-plain [] n = refl
+sign-plain (c ∷ s) n = rw (ne-eqb c minus n)
+
+-- the sign stands in the field
+pub sign-within : (s : List ℕ) → signOf s ≤ length s
+sign-within [] = omega arith
+sign-within (c ∷ s) = go (eqb c minus)
+  where
+    go : (b : Bool) → cond b 1 0 ≤ length (c ∷ s)
+    go true = omega arith
+    go false = omega arith
 
 -- the field behind its sign
-pub unsigned-part : (s : List ℕ) (n : ℕ) → Sign s n → take (length s - n) (drop n s) ≡ unsigned s
-unsigned-part s n (e, h) =
+pub unsigned-part : (s : List ℕ) (n : ℕ) → n ≡ signOf s → take (length s - n) (drop n s) ≡ unsigned s
+unsigned-part s n e =
     ap (λ (k : ℕ). take k (drop n s)) (sym (length-drop n s)) ∙ take-length (drop n s) ∙ ap (λ (k : ℕ). drop k s) e
 
 -- ── the whole number ────────────────────────────────────────────────────────────────────────
 
 -- the test of a whole number, by that of its figures f and by its sign n
 module _ (base most : ℕ) (s f : List ℕ) (is : f ≡ unsigned s) where
-  pub whole-test : (n : ℕ) → Sign s n → isNumeral base most f ≡ true → not (eqb n 1 && eqb (getD f 0 0) 48) ≡ isWhole base most s
-  whole-test n (e, h) m =
+  pub whole-test : (n : ℕ) → n ≡ signOf s → isNumeral base most f ≡ true → not (eqb n 1 && eqb (getD f 0 0) 48) ≡ isWhole base most s
+  whole-test n e m =
       ap (λ (b : Bool). b && not (eqb n 1 && eqb (getD f 0 0) 48)) (sym m)
       ∙ ap (λ (g : List ℕ). isNumeral base most g && not (eqb n 1 && eqb (getD g 0 0) 48)) is
       ∙ ap (λ (k : ℕ). isNumeral base most (unsigned s) && not (eqb k 1 && eqb (getD (unsigned s) 0 0) 48)) e

@@ -95,7 +95,7 @@ pub fn decimal_at(s: &[u8], k: usize) -> Decimal
 
 // The sign of a field: 1 where a minus stands first, else 0.
 pub fn sign_of(field: &[u8]) -> u32
-    ensures { λ r. ⌜ (r ≡ signOf (now (field .entry))) × (r ≤ length (now (field .entry))) ⌝ }
+    ensures { λ r. ⌜ r ≡ signOf (now (field .entry)) ⌝ }
 {
     if field.len() == 0 {
         return 0;

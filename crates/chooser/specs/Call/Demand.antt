@@ -69,7 +69,7 @@ cheapest-sheet k l limit hk hl =
     }
 
 module _ (k : List ℕ) (k-sign : ℕ) (l : List ℕ) (l-sign : ℕ) where
-  -- the two signed scalars, and the plan for them
+  -- the two signed scalars
   abbrev x : ℤ
   x = signedScalar k k-sign
 

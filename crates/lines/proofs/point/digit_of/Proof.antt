@@ -30,7 +30,7 @@ returns c =
     c .negative .ensures
     ∙ digit-signed (sized .before .before .before .args .field .now) _ true
     (sized .size-of .ensures ∙ ap (λ (f : List ℕ). decimalOf (number 10 2 f)) (sized .before .unsigned .ensures))
-    (ap (λ (n : ℕ). eqb n 1) (sym (c .before .before .sign-of .ensures .0)) ∙ eq-eqb _ 1 (c .before .if1 .taken))
+    (ap (λ (n : ℕ). eqb n 1) (sym (c .before .before .sign-of .ensures)) ∙ eq-eqb _ 1 (c .before .if1 .taken))
 
 plain-requires : tie.Need-plain-requires
 plain-requires c κs = search needs
@@ -41,7 +41,7 @@ returns-2 c =
     c .plain .ensures
     ∙ digit-signed (sized .before .before .before .args .field .now) _ false
     (sized .size-of .ensures ∙ ap (λ (f : List ℕ). decimalOf (number 10 2 f)) (sized .before .unsigned .ensures))
-    (ap (λ (n : ℕ). eqb n 1) (sym (c .before .before .sign-of .ensures .0)) ∙ ne-eqb _ 1 (c .before .if1 .left))
+    (ap (λ (n : ℕ). eqb n 1) (sym (c .before .before .sign-of .ensures)) ∙ ne-eqb _ 1 (c .before .if1 .left))
 
 pub digit-of-spec : {M : Type 1} → statement M
 digit-of-spec =

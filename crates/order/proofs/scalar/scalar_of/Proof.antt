@@ -25,7 +25,7 @@ returns c =
       (
         r .1 .0,
         scalar-whole (u .before .before .before .args .field .now) (take (c .scalar-with .result .len) (c .scalar-with .result .bytes)) (u .unsigned .result .now)
-            (c .scalar-with .result .sign) (u .unsigned .ensures) (r .1 .1 .1 ∙ u .before .sign-of .ensures .0) (r .1 .1 .0),
+            (c .scalar-with .result .sign) (u .unsigned .ensures) (r .1 .1 .1 ∙ u .before .sign-of .ensures) (r .1 .1 .0),
       ),
     )
 

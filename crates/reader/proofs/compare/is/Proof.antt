@@ -45,7 +45,7 @@ returns c = λ z h.
     c .reaches .ensures
     ∙ ap (λ (f : List ℕ). eqb (followed 16 0 f + value (none .result)) (value (a .limbs .now))) (c .before .before .before .before .unsigned .ensures)
     ∙ is-plus (a .limbs .now) (none .result) (none .ensures) (signOf (a .field .now)) (followed 16 0 (unsigned (a .field .now))) z
-    (sym (c .before .before .before .sign-of .ensures .0) ∙ c .before .before .if1 .taken) h
+    (sym (c .before .before .before .sign-of .ensures) ∙ c .before .before .if1 .taken) h
 
 slice-aggregate-reaches-2 : tie.Need-slice-aggregate-reaches-2
 slice-aggregate-reaches-2 c = search needs
@@ -62,7 +62,7 @@ returns-2 c = λ z h.
     c .reaches2 .ensures
     ∙ ap (λ (f : List ℕ). eqb (followed 16 0 f + value (a .limbs .now)) (value (none .result))) (c .before .before .before .before .unsigned .ensures)
     ∙ is-minus (a .limbs .now) (none .result) (none .ensures) (signOf (a .field .now)) (followed 16 0 (unsigned (a .field .now))) z
-    (λ e. c .before .before .if1 .left (c .before .before .before .sign-of .ensures .0 ∙ e)) h
+    (λ e. c .before .before .if1 .left (c .before .before .before .sign-of .ensures ∙ e)) h
 
 pub is-spec : {M : Type 1} → statement M
 is-spec =
