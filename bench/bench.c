@@ -9,52 +9,81 @@
 #include <stdlib.h>
 #include <string.h>
 
-enum { PAIRS = INPUTS, MOST_BYTES = 66, UNTOUCHED = 0xaa };
+enum { PAIRS = INPUTS, MOST_BYTES = 128, UNTOUCHED = 0xaa };
 
 /* ---- both sides ---- */
 
-struct calls {
-    uint64_t (*row)(const uint8_t *, size_t, uint32_t, uint32_t, uint8_t *, size_t);
-    uint64_t (*joint)(const uint8_t *, size_t, uint32_t, const uint8_t *, size_t, uint32_t, uint8_t *, size_t, uint8_t *, size_t);
-    uint64_t (*joint_codes)(const uint8_t *, size_t, uint32_t, const uint8_t *, size_t, uint32_t, uint8_t *, size_t, uint8_t *, size_t,
-                            uint8_t *, size_t, uint8_t *, size_t);
-    uint64_t (*plan_j)(const uint8_t *, size_t, uint32_t, const uint8_t *, size_t, uint32_t, uint8_t *, size_t);
-    uint64_t (*plan_i)(const uint8_t *, size_t, uint32_t, const uint8_t *, size_t, uint32_t, uint32_t, uint32_t, uint8_t *, size_t);
-    uint64_t (*cheapest)(const uint8_t *, size_t, uint32_t, const uint8_t *, size_t, uint32_t, uint32_t, uint8_t *, size_t);
-    uint64_t (*read)(const uint8_t *, size_t);
+/* A set of calls: the library's, the same in plain C, the most bytes of a scalar, and the bytes of a sheet buffer. */
+struct set {
+    struct calls library;
+    const struct calls *plain_c;
+    size_t most_bytes, sheet_bytes;
 };
 
-static const struct calls library = {
-    sheets_row, sheets_joint, sheets_joint_codes, sheets_plan_j, sheets_plan_i, sheets_cheapest, sheets_read,
+static const struct set card = {
+    {sheets_row, sheets_joint, sheets_joint_codes, sheets_plan_j, sheets_plan_i, sheets_cheapest, sheets_read},
+    &peer_card, 66, SHEETS_BYTES,
 };
-static const struct calls plain_c = {peer_row, peer_joint, peer_joint_codes, peer_plan_j, peer_plan_i, peer_cheapest, peer_read};
+
+/* An archive may be older than the gateway's calls. */
+#ifdef WITH_GATEWAY
+static const struct set gateway = {
+    {sheets_gateway_row, sheets_gateway_joint, sheets_gateway_joint_codes, sheets_gateway_plan_j, sheets_gateway_plan_i,
+     sheets_gateway_cheapest, sheets_gateway_read},
+    &peer_gateway, 128, SHEETS_GATEWAY_BYTES,
+};
+#endif
+
+/* The lengths of scalars that are timed, and whose calls they are timed by. */
+static const struct length {
+    size_t bytes;
+    const struct set *set;
+} lengths[] = {
+    {32, &card},
+    {66, &card},
+#ifdef WITH_GATEWAY
+    {128, &gateway},
+#endif
+};
 
 /* ---- inputs and outputs ---- */
 
-/* Pairs of scalars of one length and with the same two signs, and a sheet of each, one behind the other. */
+/* Pairs of scalars of one length and with the same two signs, as far apart as the set's longest, and a sheet of each, one behind the other. */
 struct inputs {
+    const struct set *set;
     size_t bytes;
     uint32_t ks, ls;
-    uint8_t k[PAIRS][MOST_BYTES], l[PAIRS][MOST_BYTES];
-    uint8_t sheets[PAIRS * SHEETS_BYTES];
+    uint8_t k[PAIRS * MOST_BYTES], l[PAIRS * MOST_BYTES];
+    uint8_t sheets[PAIRS * SHEETS_GATEWAY_BYTES];
     size_t start[PAIRS + 1];
 };
 
 /* What a call may write: two rows of digits and their codes, or a sheet. */
 struct output {
-    uint8_t k_digits[SHEETS_PLACES(MOST_BYTES)], l_digits[SHEETS_PLACES(MOST_BYTES)], sheet[SHEETS_BYTES];
+    uint8_t k_digits[SHEETS_PLACES(MOST_BYTES)], l_digits[SHEETS_PLACES(MOST_BYTES)], sheet[SHEETS_GATEWAY_BYTES];
     uint8_t k_codes[SHEETS_PLACES(MOST_BYTES)], l_codes[SHEETS_PLACES(MOST_BYTES)];
 };
 
-static void fill_scalars(struct inputs *in, size_t bytes)
+static const uint8_t *k_at(const struct inputs *in, size_t i)
 {
-    uint64_t state = bytes;
+    return in->k + i * in->set->most_bytes;
+}
 
-    in->bytes = bytes;
+static const uint8_t *l_at(const struct inputs *in, size_t i)
+{
+    return in->l + i * in->set->most_bytes;
+}
+
+static void fill_scalars(struct inputs *in, struct length length)
+{
+    uint64_t state = length.bytes;
+
+    in->set = length.set;
+    in->bytes = length.bytes;
     for (size_t i = 0; i < PAIRS; i++)
-        for (size_t j = 0; j < bytes; j++) {
-            in->k[i][j] = (uint8_t)next_random(&state);
-            in->l[i][j] = (uint8_t)next_random(&state);
+        for (size_t j = i * in->set->most_bytes; j < i * in->set->most_bytes + in->bytes; j++) {
+            in->k[j] = (uint8_t)next_random(&state);
+            in->l[j] = (uint8_t)next_random(&state);
         }
 }
 
@@ -70,7 +99,7 @@ struct work {
 
 static uint64_t row(const struct calls *c, const struct work *w, const struct inputs *in, size_t i, struct output *out)
 {
-    return c->row(in->k[i], in->bytes, in->ks, w->a, out->k_digits, SHEETS_PLACES(in->bytes));
+    return c->row(k_at(in, i), in->bytes, in->ks, w->a, out->k_digits, SHEETS_PLACES(in->bytes));
 }
 
 static uint64_t joint(const struct calls *c, const struct work *w, const struct inputs *in, size_t i, struct output *out)
@@ -78,7 +107,7 @@ static uint64_t joint(const struct calls *c, const struct work *w, const struct 
     size_t places = SHEETS_PLACES(in->bytes);
 
     (void)w;
-    return c->joint(in->k[i], in->bytes, in->ks, in->l[i], in->bytes, in->ls, out->k_digits, places, out->l_digits, places);
+    return c->joint(k_at(in, i), in->bytes, in->ks, l_at(in, i), in->bytes, in->ls, out->k_digits, places, out->l_digits, places);
 }
 
 static uint64_t joint_codes(const struct calls *c, const struct work *w, const struct inputs *in, size_t i, struct output *out)
@@ -86,24 +115,24 @@ static uint64_t joint_codes(const struct calls *c, const struct work *w, const s
     size_t places = SHEETS_PLACES(in->bytes);
 
     (void)w;
-    return c->joint_codes(in->k[i], in->bytes, in->ks, in->l[i], in->bytes, in->ls, out->k_digits, places, out->l_digits, places,
-                          out->k_codes, places, out->l_codes, places);
+    return c->joint_codes(k_at(in, i), in->bytes, in->ks, l_at(in, i), in->bytes, in->ls, out->k_digits, places, out->l_digits,
+                          places, out->k_codes, places, out->l_codes, places);
 }
 
 static uint64_t plan_j(const struct calls *c, const struct work *w, const struct inputs *in, size_t i, struct output *out)
 {
     (void)w;
-    return c->plan_j(in->k[i], in->bytes, in->ks, in->l[i], in->bytes, in->ls, out->sheet, SHEETS_BYTES);
+    return c->plan_j(k_at(in, i), in->bytes, in->ks, l_at(in, i), in->bytes, in->ls, out->sheet, in->set->sheet_bytes);
 }
 
 static uint64_t plan_i(const struct calls *c, const struct work *w, const struct inputs *in, size_t i, struct output *out)
 {
-    return c->plan_i(in->k[i], in->bytes, in->ks, in->l[i], in->bytes, in->ls, w->a, w->b, out->sheet, SHEETS_BYTES);
+    return c->plan_i(k_at(in, i), in->bytes, in->ks, l_at(in, i), in->bytes, in->ls, w->a, w->b, out->sheet, in->set->sheet_bytes);
 }
 
 static uint64_t cheapest(const struct calls *c, const struct work *w, const struct inputs *in, size_t i, struct output *out)
 {
-    return c->cheapest(in->k[i], in->bytes, in->ks, in->l[i], in->bytes, in->ls, w->a, out->sheet, SHEETS_BYTES);
+    return c->cheapest(k_at(in, i), in->bytes, in->ks, l_at(in, i), in->bytes, in->ls, w->a, out->sheet, in->set->sheet_bytes);
 }
 
 static uint64_t read_sheet(const struct calls *c, const struct work *w, const struct inputs *in, size_t i, struct output *out)
@@ -134,7 +163,7 @@ static void fill_sheets(struct inputs *in, const struct work *w, struct output *
 {
     in->start[0] = 0;
     for (size_t i = 0; i < PAIRS; i++) {
-        size_t length = sheets_length(w->call(&plain_c, w, in, i, out));
+        size_t length = sheets_length(w->call(in->set->plain_c, w, in, i, out));
 
         memcpy(in->sheets + in->start[i], out->sheet, length);
         in->start[i + 1] = in->start[i] + length;
@@ -151,7 +180,7 @@ static void check(const struct work *w, const struct inputs *in)
     for (size_t i = 0; i < PAIRS; i++) {
         memset(&ours, UNTOUCHED, sizeof ours);
         memset(&theirs, UNTOUCHED, sizeof theirs);
-        if (w->call(&library, w, in, i, &ours) != w->call(&plain_c, w, in, i, &theirs)
+        if (w->call(&in->set->library, w, in, i, &ours) != w->call(in->set->plain_c, w, in, i, &theirs)
             || memcmp(&ours, &theirs, sizeof ours) != 0) {
             fprintf(stderr, "%s, %zu bytes, signs %u and %u: library and plain C differ on pair %zu\n", w->name, in->bytes,
                     (unsigned)in->ks, (unsigned)in->ls, i);
@@ -194,7 +223,7 @@ static void call(void *task, size_t i)
 /* Prints a row of the table. */
 static void measure(const struct work *w, const struct inputs *in, struct output *out)
 {
-    struct task ours = {&library, w, in, out}, theirs = {&plain_c, w, in, out};
+    struct task ours = {&in->set->library, w, in, out}, theirs = {in->set->plain_c, w, in, out};
 
     printf("| %s | %zu |", w->name, in->bytes);
     print_times((struct side){call, &ours}, (struct side){call, &theirs});
@@ -202,7 +231,6 @@ static void measure(const struct work *w, const struct inputs *in, struct output
 
 int main(void)
 {
-    static const size_t lengths[] = {32, 66};
     static struct inputs in;
     static struct output out;
 

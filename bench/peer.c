@@ -1,20 +1,26 @@
+/* Compiled twice: as it stands for the card's calls, and by peer_gateway.c for the gateway's. Only the limits differ. */
 #include "peer.h"
 
 #include <string.h>
 
+/* WORDS hold a scalar and a bit above it. A plan with its load and its top place has fewer doublings than DOUBLINGS. */
+#ifdef GATEWAY
+#define CALLS peer_gateway
+enum { MOST_BYTES = 128, WORDS = 17, MOST_DOUBLES = 1024, DOUBLINGS = 2048, SHEET_BYTES = 32768 };
+#else
+#define CALLS peer_card
+enum { MOST_BYTES = 66, WORDS = 9, MOST_DOUBLES = 528, DOUBLINGS = 1024, SHEET_BYTES = 16384 };
+#endif
+
 enum {
-    MOST_BYTES = 66,
     MOST_FIGURES = 2 * MOST_BYTES,
     PLACES = 8 * MOST_BYTES + 1,
-    WORDS = 9,
     WIDEST = 31,
     WINDOWS = 16,
     MOST_SLOTS = 31,
     JOINT_SLOTS = 2,
-    MOST_DOUBLES = 528,
     LIMB_BITS = 32,
-    LIMBS = MOST_DOUBLES / LIMB_BITS + 2,
-    SHEET_BYTES = 16384
+    LIMBS = MOST_DOUBLES / LIMB_BITS + 2
 };
 
 /* ---- answers and questions 1 to 4 ---- */
@@ -223,7 +229,7 @@ static uint64_t answer(struct recoded r)
     return written(r.places, r.weight);
 }
 
-uint64_t peer_row(const uint8_t *scalar, size_t n, uint32_t sign, uint32_t m, uint8_t *digits, size_t places)
+static uint64_t peer_row(const uint8_t *scalar, size_t n, uint32_t sign, uint32_t m, uint8_t *digits, size_t places)
 {
     struct recoded row;
     struct bits b;
@@ -241,8 +247,8 @@ uint64_t peer_row(const uint8_t *scalar, size_t n, uint32_t sign, uint32_t m, ui
     return answer(row);
 }
 
-uint64_t peer_joint(const uint8_t *k, size_t kn, uint32_t ks, const uint8_t *l, size_t ln, uint32_t ls, uint8_t *k_digits,
-                    size_t k_places, uint8_t *l_digits, size_t l_places)
+static uint64_t peer_joint(const uint8_t *k, size_t kn, uint32_t ks, const uint8_t *l, size_t ln, uint32_t ls, uint8_t *k_digits,
+                           size_t k_places, uint8_t *l_digits, size_t l_places)
 {
     struct recoded joint;
     struct bits kb, lb;
@@ -261,9 +267,9 @@ uint64_t peer_joint(const uint8_t *k, size_t kn, uint32_t ks, const uint8_t *l, 
     return answer(joint);
 }
 
-uint64_t peer_joint_codes(const uint8_t *k, size_t kn, uint32_t ks, const uint8_t *l, size_t ln, uint32_t ls, uint8_t *k_digits,
-                          size_t k_places, uint8_t *l_digits, size_t l_places, uint8_t *k_codes, size_t k_room, uint8_t *l_codes,
-                          size_t l_room)
+static uint64_t peer_joint_codes(const uint8_t *k, size_t kn, uint32_t ks, const uint8_t *l, size_t ln, uint32_t ls,
+                                 uint8_t *k_digits, size_t k_places, uint8_t *l_digits, size_t l_places, uint8_t *k_codes,
+                                 size_t k_room, uint8_t *l_codes, size_t l_room)
 {
     struct recoded joint;
     struct bits kb, lb;
@@ -490,8 +496,8 @@ static uint64_t write_sheet(struct plan plan, const struct bits *k, const struct
     return written((size_t)(p - sheet), additions);
 }
 
-uint64_t peer_plan_j(const uint8_t *k, size_t kn, uint32_t ks, const uint8_t *l, size_t ln, uint32_t ls, uint8_t *sheet,
-                     size_t room)
+static uint64_t peer_plan_j(const uint8_t *k, size_t kn, uint32_t ks, const uint8_t *l, size_t ln, uint32_t ls, uint8_t *sheet,
+                            size_t room)
 {
     struct bits kb, lb;
 
@@ -504,8 +510,8 @@ uint64_t peer_plan_j(const uint8_t *k, size_t kn, uint32_t ks, const uint8_t *l,
     return write_sheet(plan_j(), &kb, &lb, sheet);
 }
 
-uint64_t peer_plan_i(const uint8_t *k, size_t kn, uint32_t ks, const uint8_t *l, size_t ln, uint32_t ls, uint32_t m1, uint32_t m2,
-                     uint8_t *sheet, size_t room)
+static uint64_t peer_plan_i(const uint8_t *k, size_t kn, uint32_t ks, const uint8_t *l, size_t ln, uint32_t ls, uint32_t m1,
+                            uint32_t m2, uint8_t *sheet, size_t room)
 {
     struct bits kb, lb;
 
@@ -551,7 +557,7 @@ static unsigned cost_of(struct plan plan, struct recoded r)
 {
     unsigned additions = table_additions(plan) + r.weight, doublings = table_doublings(plan) + r.places;
 
-    return (additions * 1024 + doublings) * 64 + slots_of(plan);
+    return (additions * DOUBLINGS + doublings) * 64 + slots_of(plan);
 }
 
 /* The first of the least plans within the limit: J, then the plans I by m1. */
@@ -577,8 +583,8 @@ static struct plan choose(const struct recoded *k_rows, const struct recoded *l_
     return best;
 }
 
-uint64_t peer_cheapest(const uint8_t *k, size_t kn, uint32_t ks, const uint8_t *l, size_t ln, uint32_t ls, uint32_t limit,
-                       uint8_t *sheet, size_t room)
+static uint64_t peer_cheapest(const uint8_t *k, size_t kn, uint32_t ks, const uint8_t *l, size_t ln, uint32_t ls, uint32_t limit,
+                              uint8_t *sheet, size_t room)
 {
     struct recoded k_rows[WINDOWS], l_rows[WINDOWS], joint = {0, 0};
     struct bits kb, lb;
@@ -900,7 +906,7 @@ static int is_sum(const int64_t *limb, const struct signed_words *scalar)
     return carry == 0;
 }
 
-uint64_t peer_read(const uint8_t *sheet, size_t n)
+static uint64_t peer_read(const uint8_t *sheet, size_t n)
 {
     struct reader r = {.at = sheet, .end = sheet + n, .line = 1};
 
@@ -920,3 +926,5 @@ uint64_t peer_read(const uint8_t *sheet, size_t n)
         return refusal(11, 1);
     return 0;
 }
+
+const struct calls CALLS = {peer_row, peer_joint, peer_joint_codes, peer_plan_j, peer_plan_i, peer_cheapest, peer_read};

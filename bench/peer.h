@@ -6,21 +6,22 @@
 #include <stdint.h>
 
 /*
- * Each returns the number of the question missed in bits 32 to 63; below them the reader's line, or in bits 16 to 31 the weight or the
- * additions and in bits 0 to 15 the length. Behind the length of a scalar stands its sign: 0 for plus, any other number for minus.
+ * The seven calls. Each returns the number of the question missed in bits 32 to 63; below them the reader's line, or in bits 16 to 31 the
+ * weight or the additions and in bits 0 to 15 the length. Behind the length of a scalar stands its sign: 0 for plus, any other number for
+ * minus. A buffer stands before its length.
  */
-uint64_t peer_row(const uint8_t *scalar, size_t n, uint32_t sign, uint32_t m, uint8_t *digits, size_t places);
-uint64_t peer_joint(const uint8_t *k, size_t kn, uint32_t ks, const uint8_t *l, size_t ln, uint32_t ls, uint8_t *k_digits,
-                    size_t k_places, uint8_t *l_digits, size_t l_places);
-uint64_t peer_joint_codes(const uint8_t *k, size_t kn, uint32_t ks, const uint8_t *l, size_t ln, uint32_t ls, uint8_t *k_digits,
-                          size_t k_places, uint8_t *l_digits, size_t l_places, uint8_t *k_codes, size_t k_room, uint8_t *l_codes,
-                          size_t l_room);
-uint64_t peer_plan_j(const uint8_t *k, size_t kn, uint32_t ks, const uint8_t *l, size_t ln, uint32_t ls, uint8_t *sheet,
-                     size_t room);
-uint64_t peer_plan_i(const uint8_t *k, size_t kn, uint32_t ks, const uint8_t *l, size_t ln, uint32_t ls, uint32_t m1, uint32_t m2,
-                     uint8_t *sheet, size_t room);
-uint64_t peer_cheapest(const uint8_t *k, size_t kn, uint32_t ks, const uint8_t *l, size_t ln, uint32_t ls, uint32_t limit,
-                       uint8_t *sheet, size_t room);
-uint64_t peer_read(const uint8_t *sheet, size_t n);
+struct calls {
+    uint64_t (*row)(const uint8_t *, size_t, uint32_t, uint32_t, uint8_t *, size_t);
+    uint64_t (*joint)(const uint8_t *, size_t, uint32_t, const uint8_t *, size_t, uint32_t, uint8_t *, size_t, uint8_t *, size_t);
+    uint64_t (*joint_codes)(const uint8_t *, size_t, uint32_t, const uint8_t *, size_t, uint32_t, uint8_t *, size_t, uint8_t *, size_t,
+                            uint8_t *, size_t, uint8_t *, size_t);
+    uint64_t (*plan_j)(const uint8_t *, size_t, uint32_t, const uint8_t *, size_t, uint32_t, uint8_t *, size_t);
+    uint64_t (*plan_i)(const uint8_t *, size_t, uint32_t, const uint8_t *, size_t, uint32_t, uint32_t, uint32_t, uint8_t *, size_t);
+    uint64_t (*cheapest)(const uint8_t *, size_t, uint32_t, const uint8_t *, size_t, uint32_t, uint32_t, uint8_t *, size_t);
+    uint64_t (*read)(const uint8_t *, size_t);
+};
+
+/* By the card's limits, and by the gateway's. */
+extern const struct calls peer_card, peer_gateway;
 
 #endif

@@ -2,6 +2,9 @@
  * Double-and-add sheets for kP + lQ: the calls for a host program in C on x86-64 Linux. Link with libsheets.a, by what
  * `pkg-config --cflags --libs sheets` says.
  *
+ * There are two sets of calls, which do the same within other limits: those of a card, which are described one by one, and those of a
+ * gateway at the end, for longer scalars. Up to there the limits named are the card's.
+ *
  * A scalar has 1 to 66 bytes, the most significant byte first, and behind their number its sign: 0 for plus, any other number for minus.
  * Leading zero bytes and zero are allowed; zero with a minus is zero. With a minus each digit of the scalar's row is negated, and a sheet's
  * header has a minus before its figures. The places of a row, weights, codes, additions and the plan chosen are the same with any sign.
@@ -36,9 +39,10 @@
 extern "C" {
 #endif
 
-/* The places that a digit or code buffer needs for a scalar of so many bytes, and the bytes that a sheet buffer needs. */
+/* The places that a digit or code buffer needs for a scalar of so many bytes; the bytes that a sheet buffer needs, and the gateway's. */
 #define SHEETS_PLACES(bytes) (8 * (size_t)(bytes) + 1)
 #define SHEETS_BYTES 16384
+#define SHEETS_GATEWAY_BYTES 32768
 
 /*
  * The row of a scalar for the window m. Questions 1, 2, 3. The length is the number of places, at most 529, and the weight the number of
@@ -95,6 +99,32 @@ uint64_t sheets_cheapest(const uint8_t *k, size_t kn, uint32_t ks, const uint8_t
  *   11   is the result (k, l), each with its sign? Line 1.
  */
 uint64_t sheets_read(const uint8_t *sheet, size_t n);
+
+/*
+ * The calls of the gateway: each does what the card's call of the same name does, by the gateway's limits, which are in these questions:
+ *
+ *    1   has each scalar 1 to 128 bytes? A row or a joint form then has at most 1,025 places.
+ *    3   has a sheet buffer 32,768 bytes (SHEETS_GATEWAY_BYTES)? Digit and code buffers need SHEETS_PLACES, as at the card.
+ *    5   has the sheet that is read at most 32,768 bytes?
+ *    6   has each scalar of its header at most 256 figures? The card's reader takes 132.
+ *    9   are there at most 1,024 D lines? The 1,025th.
+ *
+ * What the card takes, the gateway takes with the same answer: the same digits and codes, the same sheet in a buffer of its own size, and a
+ * sheet that the card accepts is accepted.
+ */
+uint64_t sheets_gateway_row(const uint8_t *scalar, size_t n, uint32_t sign, uint32_t m, uint8_t *digits, size_t places);
+uint64_t sheets_gateway_joint(const uint8_t *k, size_t kn, uint32_t ks, const uint8_t *l, size_t ln, uint32_t ls, uint8_t *k_digits,
+                              size_t k_places, uint8_t *l_digits, size_t l_places);
+uint64_t sheets_gateway_joint_codes(const uint8_t *k, size_t kn, uint32_t ks, const uint8_t *l, size_t ln, uint32_t ls, uint8_t *k_digits,
+                                    size_t k_places, uint8_t *l_digits, size_t l_places, uint8_t *k_codes, size_t k_room, uint8_t *l_codes,
+                                    size_t l_room);
+uint64_t sheets_gateway_plan_j(const uint8_t *k, size_t kn, uint32_t ks, const uint8_t *l, size_t ln, uint32_t ls, uint8_t *sheet,
+                               size_t room);
+uint64_t sheets_gateway_plan_i(const uint8_t *k, size_t kn, uint32_t ks, const uint8_t *l, size_t ln, uint32_t ls, uint32_t m1, uint32_t m2,
+                               uint8_t *sheet, size_t room);
+uint64_t sheets_gateway_cheapest(const uint8_t *k, size_t kn, uint32_t ks, const uint8_t *l, size_t ln, uint32_t ls, uint32_t limit,
+                                 uint8_t *sheet, size_t room);
+uint64_t sheets_gateway_read(const uint8_t *sheet, size_t n);
 
 /* The parts of an answer. */
 static inline uint32_t sheets_number(uint64_t answer) { return (uint32_t)(answer >> 32); }

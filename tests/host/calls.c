@@ -1,12 +1,48 @@
 /*
  * Calls every function of sheets.h with good and bad input, and checks the answers and every byte of the buffers: against the samples
  * of the scope document, and for other scalars by reading the digits back and counting those that are not 0; with every pair of signs.
+ * All this by the card's calls and by the gateway's, each at its own limits; then both sets at the limits of either.
  */
 #include "sheets.h"
 
+#include <stdarg.h>
 #include <stdio.h>
 #include <stdlib.h>
 #include <string.h>
+
+/* ---- the two sets of calls ---- */
+
+struct calls {
+    const char *name;
+    uint64_t (*row)(const uint8_t *, size_t, uint32_t, uint32_t, uint8_t *, size_t);
+    uint64_t (*joint)(const uint8_t *, size_t, uint32_t, const uint8_t *, size_t, uint32_t, uint8_t *, size_t, uint8_t *, size_t);
+    uint64_t (*joint_codes)(const uint8_t *, size_t, uint32_t, const uint8_t *, size_t, uint32_t, uint8_t *, size_t, uint8_t *, size_t,
+                            uint8_t *, size_t, uint8_t *, size_t);
+    uint64_t (*plan_j)(const uint8_t *, size_t, uint32_t, const uint8_t *, size_t, uint32_t, uint8_t *, size_t);
+    uint64_t (*plan_i)(const uint8_t *, size_t, uint32_t, const uint8_t *, size_t, uint32_t, uint32_t, uint32_t, uint8_t *, size_t);
+    uint64_t (*cheapest)(const uint8_t *, size_t, uint32_t, const uint8_t *, size_t, uint32_t, uint32_t, uint8_t *, size_t);
+    uint64_t (*read)(const uint8_t *, size_t);
+    size_t bytes;       /* of a scalar, at most */
+    size_t sheet_bytes; /* of a sheet at most, and of its buffer at least */
+    unsigned figures;   /* of a scalar in a header, at most */
+    unsigned doublings; /* the D lines of a sheet, at most */
+};
+
+static const struct calls card = {
+    "card", sheets_row, sheets_joint, sheets_joint_codes, sheets_plan_j, sheets_plan_i, sheets_cheapest, sheets_read,
+    66, 16384, 132, 528,
+};
+static const struct calls gateway = {
+    "gateway", sheets_gateway_row, sheets_gateway_joint, sheets_gateway_joint_codes, sheets_gateway_plan_j, sheets_gateway_plan_i,
+    sheets_gateway_cheapest, sheets_gateway_read,
+    128, 32768, 256, 1024,
+};
+
+/* The set that is tried. */
+static const struct calls *by = &card;
+
+/* The most bytes and places of either set, and more places than any call asks for. */
+enum { MOST_BYTES = 128, MOST_PLACES = SHEETS_PLACES(MOST_BYTES), PLENTY = 2 * MOST_PLACES };
 
 /* ---- checks ---- */
 
@@ -17,7 +53,7 @@ static void check(int met, const char *what, int line)
     checks++;
     if (!met) {
         failed++;
-        printf("%s:%d: failed: %s\n", __FILE__, line, what);
+        printf("%s:%d: failed at the %s: %s\n", __FILE__, line, by->name, what);
     }
 }
 
@@ -102,6 +138,35 @@ static struct bytes filled(uint8_t byte, size_t n)
     return b;
 }
 
+/* A word, so many times. The text is good until two more are made. */
+static const char *times(size_t n, const char *word)
+{
+    static char all[2][4096];
+    static unsigned made;
+    char *at = all[made++ % 2];
+    size_t length = strlen(word), i;
+    if (n * length >= sizeof *all)
+        exit(2);
+    for (i = 0; i < n; i++)
+        memcpy(at + i * length, word, length);
+    at[n * length] = 0;
+    return at;
+}
+
+/* A text of these parts, good until the next is made. */
+static const char *spelled(const char *parts, ...)
+{
+    static char all[4096];
+    va_list list;
+    int length;
+    va_start(list, parts);
+    length = vsnprintf(all, sizeof all, parts, list);
+    va_end(list);
+    if (length < 0 || (size_t)length >= sizeof all)
+        exit(2);
+    return all;
+}
+
 static struct bytes text(const char *s) { return bytes_of((const uint8_t *)s, strlen(s)); }
 
 /* A scalar of one byte. */
@@ -120,23 +185,23 @@ static struct bytes minus(struct bytes scalar) { return with_sign(scalar, 1); }
 static const uint32_t signs[] = {0, 1, 2, 256, 65536, 2147483648u, 4294967295u};
 enum { SIGNS = sizeof signs / sizeof *signs };
 
-/* A scalar whose row for window 1 is as heavy as any: it has a digit that is not 0 at every second place, from place 0 to place 528. */
+/* A longest scalar whose row for window 1 is as heavy as any: it has a digit that is not 0 at every second place, from place 0 to the last. */
 static struct bytes heavy(void)
 {
-    uint8_t all[66];
-    memset(all, 0xaa, sizeof all);
-    all[65] = 0xab;
-    return bytes_of(all, sizeof all);
+    uint8_t all[MOST_BYTES];
+    memset(all, 0xaa, by->bytes);
+    all[by->bytes - 1] = 0xab;
+    return bytes_of(all, by->bytes);
 }
 
-/* Three bytes, over and over. */
+/* A longest scalar that ends in these three bytes, and has them over and over. */
 static struct bytes repeated(uint8_t a, uint8_t b, uint8_t c)
 {
-    uint8_t all[66];
+    uint8_t all[MOST_BYTES];
     size_t i;
-    for (i = 0; i < sizeof all; i++)
-        all[i] = i % 3 == 0 ? a : i % 3 == 1 ? b : c;
-    return bytes_of(all, sizeof all);
+    for (i = 0; i < by->bytes; i++)
+        all[by->bytes - 1 - i] = i % 3 == 0 ? c : i % 3 == 1 ? b : a;
+    return bytes_of(all, by->bytes);
 }
 
 /* The next of a fixed sequence of numbers that look random. */
@@ -152,13 +217,16 @@ static uint32_t next_number(void)
 /* A scalar of so many bytes; about half of them have a plus. */
 static struct bytes any_scalar(size_t n)
 {
-    uint8_t all[66];
+    uint8_t all[MOST_BYTES];
     size_t i;
     uint32_t kind = next_number() % 4, sign = next_number() % (2 * SIGNS - 2);
     for (i = 0; i < n; i++)
         all[i] = kind == 0 ? 255 : kind == 1 ? (uint8_t)(next_number() & next_number()) : (uint8_t)next_number();
     return with_sign(bytes_of(all, n), sign < SIGNS ? signs[sign] : 0);
 }
+
+/* A scalar of any number of bytes that the set takes. */
+static struct bytes any_within(void) { return any_scalar(1 + next_number() % by->bytes); }
 
 /* Frees an input, and says whether it is as it was handed in. */
 static int only_read(struct bytes b)
@@ -171,30 +239,34 @@ static int only_read(struct bytes b)
 
 /* ---- buffers, with guard bytes on both sides ---- */
 
-enum { GUARD = 64, MOST = SHEETS_BYTES + 64 };
+enum { GUARD = 64, MOST = SHEETS_GATEWAY_BYTES + 64 };
 
 struct lent {
     uint8_t all[GUARD + MOST + GUARD];
 };
 
-static uint8_t guard_byte(size_t i) { return (uint8_t)(37 * i + 11); }
+/* What a buffer and its guards hold when they are lent. */
+static const uint8_t *before(void)
+{
+    static struct lent made;
+    size_t i;
+    if (made.all[0] == 0)
+        for (i = 0; i < sizeof made.all; i++)
+            made.all[i] = (uint8_t)(37 * i + 11);
+    return made.all;
+}
 
 static uint8_t *lend(struct lent *b)
 {
-    size_t i;
-    for (i = 0; i < sizeof b->all; i++)
-        b->all[i] = guard_byte(i);
+    memcpy(b->all, before(), sizeof b->all);
     return b->all + GUARD;
 }
 
 /* Whether only the first n bytes of the buffer may have changed. */
 static int kept(const struct lent *b, size_t n)
 {
-    size_t i;
-    for (i = 0; i < sizeof b->all; i++)
-        if ((i < GUARD || i >= GUARD + n) && b->all[i] != guard_byte(i))
-            return 0;
-    return 1;
+    size_t behind = GUARD + n;
+    return memcmp(b->all, before(), GUARD) == 0 && memcmp(b->all + behind, before() + behind, sizeof b->all - behind) == 0;
 }
 
 static struct lent first, second, third, fourth;
@@ -241,7 +313,7 @@ static size_t columns_of(const uint8_t *p, const uint8_t *q, size_t places)
  */
 static int reads_back(const uint8_t *digits, size_t length, struct bytes scalar)
 {
-    uint8_t number[80] = {0};
+    uint8_t number[MOST_BYTES + 8] = {0};
     size_t i, j;
     for (i = length; i > 0; i--) {
         int carry = scalar.sign == 0 ? digit(digits, i - 1) : -digit(digits, i - 1);
@@ -285,7 +357,7 @@ static int has_sign(const uint8_t *row, const uint8_t *plus, size_t places, uint
 static void row_is(struct bytes scalar, uint32_t m, size_t places, size_t weight, const int8_t *digits, size_t length, int line)
 {
     uint8_t *out = lend(&first);
-    written(sheets_row(scalar.at, scalar.n, scalar.sign, m, out, places), length, weight, line);
+    written(by->row(scalar.at, scalar.n, scalar.sign, m, out, places), length, weight, line);
     check(weight_of(out, places) == weight, "its weight", line);
     check(length <= places && memcmp(out, digits, length) == 0, "its digits", line);
     check(zeros_above(out, length, places), "zeros above", line);
@@ -299,7 +371,7 @@ static void row_is(struct bytes scalar, uint32_t m, size_t places, size_t weight
 /* A row call that is to be refused. */
 static void row_refused(struct bytes scalar, uint32_t m, size_t places, uint32_t number, int line)
 {
-    refused(sheets_row(scalar.at, scalar.n, scalar.sign, m, lend(&first), places), number, line);
+    refused(by->row(scalar.at, scalar.n, scalar.sign, m, lend(&first), places), number, line);
     check(kept(&first, 0), "the buffer is as lent", line);
     check(only_read(scalar), "the scalar is only read", line);
 }
@@ -309,28 +381,28 @@ static void row_refused(struct bytes scalar, uint32_t m, size_t places, uint32_t
 /* Rows with a digit that is not 0 at every second place. */
 static void heavy_rows(void)
 {
-    int8_t positive[529], negative[529];
-    size_t i;
-    for (i = 0; i < 529; i++) {
+    int8_t positive[MOST_PLACES], negative[MOST_PLACES];
+    size_t n = by->bytes, i;
+    for (i = 0; i < MOST_PLACES; i++) {
         positive[i] = i % 2 == 0 ? 0 : 1;
         negative[i] = i % 2 == 0 ? -1 : 0;
     }
-    negative[528] = 1;
-    row_is(filled(0xaa, 66), 1, SHEETS_PLACES(66), 264, positive, 528, __LINE__);
-    row_is(filled(0x55, 66), 1, SHEETS_PLACES(66), 264, positive + 1, 527, __LINE__);
-    row_is(heavy(), 1, SHEETS_PLACES(66), 265, negative, 529, __LINE__);
+    negative[8 * n] = 1;
+    row_is(filled(0xaa, n), 1, SHEETS_PLACES(n), 4 * n, positive, 8 * n, __LINE__);
+    row_is(filled(0x55, n), 1, SHEETS_PLACES(n), 4 * n, positive + 1, 8 * n - 1, __LINE__);
+    row_is(heavy(), 1, SHEETS_PLACES(n), 4 * n + 1, negative, 8 * n + 1, __LINE__);
 }
 
 /* With every sign the same answer, and the row with each digit negated or not; all that is not plus gives the same bytes. */
 static void signed_row(struct bytes scalar, uint32_t m, int line)
 {
-    static uint8_t plus[SHEETS_PLACES(66)], negated[SHEETS_PLACES(66)];
+    static uint8_t plus[MOST_PLACES], negated[MOST_PLACES];
     size_t places = SHEETS_PLACES(scalar.n), i;
-    uint64_t expected = sheets_row(scalar.at, scalar.n, 0, m, plus, places);
-    sheets_row(scalar.at, scalar.n, 1, m, negated, places);
+    uint64_t expected = by->row(scalar.at, scalar.n, 0, m, plus, places);
+    by->row(scalar.at, scalar.n, 1, m, negated, places);
     for (i = 0; i < SIGNS; i++) {
         uint8_t *out = lend(&first);
-        check(sheets_row(scalar.at, scalar.n, signs[i], m, out, places) == expected, "the answer with a sign", line);
+        check(by->row(scalar.at, scalar.n, signs[i], m, out, places) == expected, "the answer with a sign", line);
         check(has_sign(out, plus, places, signs[i]), "the row with a sign", line);
         check(memcmp(out, signs[i] == 0 ? plus : negated, places) == 0, "the row of any minus", line);
         check(reads_back(out, places, with_sign(scalar, signs[i])), "it reads back to the signed scalar", line);
@@ -342,29 +414,29 @@ static void signed_row(struct bytes scalar, uint32_t m, int line)
 /* The samples with a minus; zero with one; small scalars and long ones with every sign; and refusals with every sign. */
 static void negative_rows(void)
 {
-    int8_t ones[529] = {1}, none[1] = {0};
+    int8_t ones[MOST_PLACES] = {1}, none[1] = {0};
     unsigned value;
     uint32_t m;
-    size_t i;
+    size_t n = by->bytes, i;
 
     ROW(minus(byte(7)), 5, 9, 2, 1, 0, 0, -1);
     ROW(minus(byte(9)), 5, 9, 2, -1, 0, 0, -1);
     ROW(minus(byte(9)), 7, 9, 2, 7, 0, 0, 0, -1);
     ROW(minus(byte(33)), 31, 9, 2, 31, 0, 0, 0, 0, 0, -1);
     ROW(minus(byte(53)), 3, 9, 3, 3, 0, 0, 1, 0, 0, -1);
-    ones[528] = -1;
-    row_is(minus(filled(255, 66)), 1, SHEETS_PLACES(66), 2, ones, 529, __LINE__);
+    ones[8 * n] = -1;
+    row_is(minus(filled(255, n)), 1, SHEETS_PLACES(n), 2, ones, 8 * n + 1, __LINE__);
     for (m = 1; m <= 31; m += 2) {
         for (value = 0; value < 64; value++)
             signed_row(byte((uint8_t)value), m, __LINE__);
-        signed_row(any_scalar(66), m, __LINE__);
-        signed_row(filled(0, 66), m, __LINE__);
+        signed_row(any_scalar(n), m, __LINE__);
+        signed_row(filled(0, n), m, __LINE__);
     }
     for (i = 0; i < SIGNS; i++) {
         row_is(with_sign(byte(0), signs[i]), 1, 9, 0, none, 0, __LINE__);
-        row_is(with_sign(filled(0, 66), signs[i]), 31, SHEETS_PLACES(66), 0, none, 0, __LINE__);
+        row_is(with_sign(filled(0, n), signs[i]), 31, SHEETS_PLACES(n), 0, none, 0, __LINE__);
         ROW_REFUSED(with_sign(filled(1, 0), signs[i]), 4, 0, 1);
-        ROW_REFUSED(with_sign(filled(1, 67), signs[i]), 1, 1000, 1);
+        ROW_REFUSED(with_sign(filled(1, n + 1), signs[i]), 1, PLENTY, 1);
         ROW_REFUSED(with_sign(byte(7), signs[i]), 4, 9, 2);
         ROW_REFUSED(with_sign(byte(7), signs[i]), 5, 8, 3);
     }
@@ -372,8 +444,8 @@ static void negative_rows(void)
 
 static void rows(void)
 {
-    int8_t ones[529] = {-1}, none[1] = {0};
-    size_t n;
+    int8_t ones[MOST_PLACES] = {-1}, none[1] = {0};
+    size_t most = by->bytes, n;
     uint32_t m;
 
     /* the samples */
@@ -383,21 +455,21 @@ static void rows(void)
     ROW(byte(9), 7, 9, 2, -7, 0, 0, 0, 1);
     ROW(byte(33), 31, 9, 2, -31, 0, 0, 0, 0, 0, 1);
     ROW(byte(53), 3, 9, 3, -3, 0, 0, -1, 0, 0, 1);
-    ones[528] = 1;
-    row_is(filled(255, 66), 1, SHEETS_PLACES(66), 2, ones, 529, __LINE__);
+    ones[8 * most] = 1;
+    row_is(filled(255, most), 1, SHEETS_PLACES(most), 2, ones, 8 * most + 1, __LINE__);
     heavy_rows();
 
     /* leading zero bytes, more room than is needed, the carry out of the top place */
-    ROW(bytes_of((const uint8_t *)"\0\0\7", 3), 5, 1000, 2, -1, 0, 0, 1);
+    ROW(bytes_of((const uint8_t *)"\0\0\7", 3), 5, PLENTY, 2, -1, 0, 0, 1);
     ROW(byte(255), 1, 9, 2, -1, 0, 0, 0, 0, 0, 0, 0, 1);
-    row_is(filled(0, 66), 31, SHEETS_PLACES(66), 0, none, 0, __LINE__);
+    row_is(filled(0, most), 31, SHEETS_PLACES(most), 0, none, 0, __LINE__);
 
-    /* 1. has the scalar 1 to 66 bytes? */
+    /* 1. has the scalar a byte, and no more than the limit? */
     ROW_REFUSED(filled(1, 0), 1, 1, 1);
-    ROW_REFUSED(filled(1, 67), 1, 1000, 1);
-    ROW_REFUSED(filled(0, 67), 1, 1000, 1);
+    ROW_REFUSED(filled(1, most + 1), 1, PLENTY, 1);
+    ROW_REFUSED(filled(0, most + 1), 1, PLENTY, 1);
     ROW_REFUSED(filled(1, 1000), 1, MOST, 1);
-    ROW_REFUSED(filled(1, 67), 4, 0, 1);
+    ROW_REFUSED(filled(1, most + 1), 4, 0, 1);
 
     /* 2. is m odd, 1 to 31? */
     ROW_REFUSED(byte(7), 0, 9, 2);
@@ -413,23 +485,23 @@ static void rows(void)
     ROW_REFUSED(byte(7), 5, 8, 3);
     ROW_REFUSED(byte(7), 5, 0, 3);
     ROW_REFUSED(byte(0), 5, 0, 3);
-    ROW_REFUSED(filled(255, 66), 1, SHEETS_PLACES(66) - 1, 3);
+    ROW_REFUSED(filled(255, most), 1, SHEETS_PLACES(most) - 1, 3);
     ROW_REFUSED(bytes_of((const uint8_t *)"\0\0\7", 3), 5, 24, 3);
 
     /* no buffer at all */
-    CHECK(sheets_row(NULL, 0, 0, 1, NULL, 0) == (uint64_t)1 << 32);
-    CHECK(sheets_row(NULL, 0, 1, 1, NULL, 0) == (uint64_t)1 << 32);
-    CHECK(sheets_row((const uint8_t *)"\7", 1, 0, 2, NULL, 0) == (uint64_t)2 << 32);
-    CHECK(sheets_row((const uint8_t *)"\7", 1, 0, 1, NULL, 0) == (uint64_t)3 << 32);
-    CHECK(sheets_row((const uint8_t *)"\7", 1, 4294967295u, 1, NULL, 0) == (uint64_t)3 << 32);
+    CHECK(by->row(NULL, 0, 0, 1, NULL, 0) == (uint64_t)1 << 32);
+    CHECK(by->row(NULL, 0, 1, 1, NULL, 0) == (uint64_t)1 << 32);
+    CHECK(by->row((const uint8_t *)"\7", 1, 0, 2, NULL, 0) == (uint64_t)2 << 32);
+    CHECK(by->row((const uint8_t *)"\7", 1, 0, 1, NULL, 0) == (uint64_t)3 << 32);
+    CHECK(by->row((const uint8_t *)"\7", 1, 4294967295u, 1, NULL, 0) == (uint64_t)3 << 32);
 
     /* every window, and scalars of every length */
-    for (n = 1; n <= 66; n++)
+    for (n = 1; n <= most; n++)
         for (m = 1; m <= 31; m += 2) {
             struct bytes scalar = any_scalar(n);
             size_t places = SHEETS_PLACES(n), i, length;
             uint8_t *out = lend(&first);
-            uint64_t answer = sheets_row(scalar.at, n, scalar.sign, m, out, places);
+            uint64_t answer = by->row(scalar.at, n, scalar.sign, m, out, places);
             int allowed = 1;
             length = length_within(answer, places);
             written(answer, length, weight_of(out, places), __LINE__);
@@ -455,7 +527,7 @@ static void joint_is(struct bytes k, struct bytes l, size_t weight, const int8_t
 {
     uint8_t *p = lend(&first), *q = lend(&second);
     size_t places = SHEETS_PLACES(k.n > l.n ? k.n : l.n);
-    written(sheets_joint(k.at, k.n, k.sign, l.at, l.n, l.sign, p, places, q, places + 3), length, weight, line);
+    written(by->joint(k.at, k.n, k.sign, l.at, l.n, l.sign, p, places, q, places + 3), length, weight, line);
     check(columns_of(p, q, places) == weight, "its weight", line);
     check(memcmp(p, k_digits, length) == 0, "the digits of k", line);
     check(memcmp(q, l_digits, length) == 0, "the digits of l", line);
@@ -466,7 +538,7 @@ static void joint_is(struct bytes k, struct bytes l, size_t weight, const int8_t
 
 static void joint_refused(struct bytes k, struct bytes l, size_t k_places, size_t l_places, uint32_t number, int line)
 {
-    refused(sheets_joint(k.at, k.n, k.sign, l.at, l.n, l.sign, lend(&first), k_places, lend(&second), l_places), number, line);
+    refused(by->joint(k.at, k.n, k.sign, l.at, l.n, l.sign, lend(&first), k_places, lend(&second), l_places), number, line);
     check(kept(&first, 0) && kept(&second, 0), "the buffers are as lent", line);
     check(only_read(k) & only_read(l), "the scalars are only read", line);
 }
@@ -496,16 +568,25 @@ static int keeps_rules(const uint8_t *p, const uint8_t *q, size_t places)
     return 1;
 }
 
+/* The places and the weight of a joint form of the longest scalars in which the columns at places 2, 5, 8 and so on are zero, no others. */
+static size_t two_of_three(size_t *weight)
+{
+    size_t places = 8 * by->bytes - (8 * by->bytes % 3 == 0), i;
+    for (*weight = i = 0; i < places; i++)
+        *weight += i % 3 != 2;
+    return places;
+}
+
 /* A joint form in which two columns of every three are not zero, the most that the rules allow; and two rows with the same columns. */
 static void heavy_joints(void)
 {
-    int8_t third[529] = {0}, ones[529] = {-1};
-    size_t i;
-    for (i = 1; i < 529; i += 3)
+    int8_t third[MOST_PLACES + 1] = {0}, ones[MOST_PLACES] = {-1};
+    size_t n = by->bytes, i, weight, places = two_of_three(&weight);
+    for (i = 1; i < sizeof third; i += 3)
         third[i] = 1;
-    ones[528] = 1;
-    joint_is(repeated(0x24, 0x92, 0x49), repeated(0x49, 0x24, 0x92), 352, third + 1, third, 527, __LINE__);
-    joint_is(filled(255, 66), filled(255, 66), 2, ones, ones, 529, __LINE__);
+    ones[8 * n] = 1;
+    joint_is(repeated(0x24, 0x92, 0x49), repeated(0x49, 0x24, 0x92), weight, third + 1, third, places, __LINE__);
+    joint_is(filled(255, n), filled(255, n), 2, ones, ones, 8 * n + 1, __LINE__);
 }
 
 /* The samples with a minus in k, in l and in both: each row is negated with its own scalar. Zero with a minus; refusals with every sign. */
@@ -520,18 +601,18 @@ static void negative_joints(void)
         joint_is(with_sign(byte(13), signs[i]), minus(byte(10)), 4, less_thirteen, less_ten, 5, __LINE__);
     }
     for (i = 0; i < SIGNS; i++) {
-        joint_is(with_sign(byte(0), signs[i]), with_sign(filled(0, 66), signs[i]), 0, none, none, 0, __LINE__);
+        joint_is(with_sign(byte(0), signs[i]), with_sign(filled(0, by->bytes), signs[i]), 0, none, none, 0, __LINE__);
         joint_is(byte(1), with_sign(byte(0), signs[i]), 1, one, none, 1, __LINE__);
         joint_is(with_sign(byte(0), signs[i]), byte(1), 1, none, one, 1, __LINE__);
-        JOINT_REFUSED(with_sign(byte(7), signs[i]), with_sign(filled(1, 0), signs[i]), 1000, 1000, 1);
-        JOINT_REFUSED(with_sign(filled(1, 67), signs[i]), with_sign(byte(7), signs[i]), 0, 0, 1);
+        JOINT_REFUSED(with_sign(byte(7), signs[i]), with_sign(filled(1, 0), signs[i]), PLENTY, PLENTY, 1);
+        JOINT_REFUSED(with_sign(filled(1, by->bytes + 1), signs[i]), with_sign(byte(7), signs[i]), 0, 0, 1);
         JOINT_REFUSED(with_sign(byte(7), signs[i]), with_sign(byte(2), signs[i]), 9, 8, 3);
     }
 }
 
 static void joints(void)
 {
-    size_t n;
+    size_t most = by->bytes, n;
 
     /* the samples */
     joint_is(byte(13), byte(10), 4, (const int8_t[]){-1, -1, 0, 0, 1}, (const int8_t[]){0, 1, 0, 1, 0}, 5, __LINE__);
@@ -542,12 +623,12 @@ static void joints(void)
     joint_is(byte(3), bytes_of((const uint8_t *)"\0\2", 2), 2, (const int8_t[]){1, 1}, (const int8_t[]){0, 1}, 2, __LINE__);
     heavy_joints();
 
-    /* 1. has each scalar 1 to 66 bytes? */
-    JOINT_REFUSED(filled(1, 0), byte(2), 1000, 1000, 1);
-    JOINT_REFUSED(byte(7), filled(1, 0), 1000, 1000, 1);
-    JOINT_REFUSED(filled(1, 67), byte(2), 1000, 1000, 1);
-    JOINT_REFUSED(byte(7), filled(1, 67), 1000, 1000, 1);
-    JOINT_REFUSED(byte(7), filled(1, 67), 0, 0, 1);
+    /* 1. has each scalar a byte, and no more than the limit? */
+    JOINT_REFUSED(filled(1, 0), byte(2), PLENTY, PLENTY, 1);
+    JOINT_REFUSED(byte(7), filled(1, 0), PLENTY, PLENTY, 1);
+    JOINT_REFUSED(filled(1, most + 1), byte(2), PLENTY, PLENTY, 1);
+    JOINT_REFUSED(byte(7), filled(1, most + 1), PLENTY, PLENTY, 1);
+    JOINT_REFUSED(byte(7), filled(1, most + 1), 0, 0, 1);
 
     /* 3. have both digit buffers room, by the longer scalar? */
     JOINT_REFUSED(byte(7), byte(2), 8, 9, 3);
@@ -556,20 +637,20 @@ static void joints(void)
     JOINT_REFUSED(byte(7), filled(0, 2), 9, 17, 3);
     JOINT_REFUSED(byte(7), filled(0, 2), 17, 16, 3);
     JOINT_REFUSED(filled(0, 2), byte(7), 17, 9, 3);
-    JOINT_REFUSED(filled(255, 66), byte(7), 529, 528, 3);
+    JOINT_REFUSED(filled(255, most), byte(7), SHEETS_PLACES(most), SHEETS_PLACES(most) - 1, 3);
 
     /* no buffer at all */
-    CHECK(sheets_joint(NULL, 0, 0, NULL, 0, 0, NULL, 0, NULL, 0) == (uint64_t)1 << 32);
-    CHECK(sheets_joint(NULL, 0, 1, NULL, 0, 2, NULL, 0, NULL, 0) == (uint64_t)1 << 32);
-    CHECK(sheets_joint((const uint8_t *)"\7", 1, 0, (const uint8_t *)"\2", 1, 0, NULL, 0, NULL, 0) == (uint64_t)3 << 32);
-    CHECK(sheets_joint((const uint8_t *)"\7", 1, 256, (const uint8_t *)"\2", 1, 1, NULL, 0, NULL, 0) == (uint64_t)3 << 32);
+    CHECK(by->joint(NULL, 0, 0, NULL, 0, 0, NULL, 0, NULL, 0) == (uint64_t)1 << 32);
+    CHECK(by->joint(NULL, 0, 1, NULL, 0, 2, NULL, 0, NULL, 0) == (uint64_t)1 << 32);
+    CHECK(by->joint((const uint8_t *)"\7", 1, 0, (const uint8_t *)"\2", 1, 0, NULL, 0, NULL, 0) == (uint64_t)3 << 32);
+    CHECK(by->joint((const uint8_t *)"\7", 1, 256, (const uint8_t *)"\2", 1, 1, NULL, 0, NULL, 0) == (uint64_t)3 << 32);
 
     /* scalars of every length */
-    for (n = 1; n <= 66; n++) {
-        struct bytes k = any_scalar(n), l = any_scalar(1 + next_number() % 66);
+    for (n = 1; n <= most; n++) {
+        struct bytes k = any_scalar(n), l = any_within();
         size_t places = SHEETS_PLACES(k.n > l.n ? k.n : l.n), bits, length;
         uint8_t *p = lend(&first), *q = lend(&second);
-        uint64_t answer = sheets_joint(k.at, k.n, k.sign, l.at, l.n, l.sign, p, places, q, places);
+        uint64_t answer = by->joint(k.at, k.n, k.sign, l.at, l.n, l.sign, p, places, q, places);
         length = length_within(answer, places);
         bits = bit_length(k) > bit_length(l) ? bit_length(k) : bit_length(l);
         written(answer, length, columns_of(p, q, places), __LINE__);
@@ -590,20 +671,20 @@ static void joints(void)
 /* The two rows of a joint form and their codes. */
 struct form {
     size_t length, weight;
-    int8_t k_digits[8], l_digits[8];
-    uint8_t k_codes[8], l_codes[8];
+    int8_t k_digits[MOST_PLACES], l_digits[MOST_PLACES];
+    uint8_t k_codes[MOST_PLACES], l_codes[MOST_PLACES];
 };
 
-static void codes_are(struct bytes k, struct bytes l, struct form form, int line)
+static void form_is(struct bytes k, struct bytes l, const struct form *form, int line)
 {
     uint8_t *p = lend(&first), *q = lend(&second), *pc = lend(&third), *qc = lend(&fourth);
-    size_t n = form.length, places = SHEETS_PLACES(k.n > l.n ? k.n : l.n);
-    uint64_t answer = sheets_joint_codes(k.at, k.n, k.sign, l.at, l.n, l.sign, p, places, q, places + 3, pc, places + 5, qc, places + 7);
-    written(answer, n, form.weight, line);
-    check(columns_of(p, q, places) == form.weight, "its weight", line);
-    check(memcmp(p, form.k_digits, n) == 0 && memcmp(q, form.l_digits, n) == 0, "the digits of k and l", line);
-    check(memcmp(pc, form.k_codes, n) == 0, "the codes of k", line);
-    check(memcmp(qc, form.l_codes, n) == 0, "the codes of l", line);
+    size_t n = form->length, places = SHEETS_PLACES(k.n > l.n ? k.n : l.n);
+    uint64_t answer = by->joint_codes(k.at, k.n, k.sign, l.at, l.n, l.sign, p, places, q, places + 3, pc, places + 5, qc, places + 7);
+    written(answer, n, form->weight, line);
+    check(columns_of(p, q, places) == form->weight, "its weight", line);
+    check(memcmp(p, form->k_digits, n) == 0 && memcmp(q, form->l_digits, n) == 0, "the digits of k and l", line);
+    check(memcmp(pc, form->k_codes, n) == 0, "the codes of k", line);
+    check(memcmp(qc, form->l_codes, n) == 0, "the codes of l", line);
     check(zeros_above(p, n, places) && zeros_above(q, n, places + 3), "zeros above the digits", line);
     check(zeros_above(pc, n, places + 5) && zeros_above(qc, n, places + 7), "zeros above the codes", line);
     check(kept(&first, places) && kept(&second, places + 3), "no other byte beside the digits", line);
@@ -613,7 +694,7 @@ static void codes_are(struct bytes k, struct bytes l, struct form form, int line
 
 static void codes_refused(struct bytes k, struct bytes l, const size_t rooms[4], uint32_t number, int line)
 {
-    uint64_t answer = sheets_joint_codes(k.at, k.n, k.sign, l.at, l.n, l.sign, lend(&first), rooms[0], lend(&second), rooms[1],
+    uint64_t answer = by->joint_codes(k.at, k.n, k.sign, l.at, l.n, l.sign, lend(&first), rooms[0], lend(&second), rooms[1],
                                          lend(&third), rooms[2], lend(&fourth), rooms[3]);
     refused(answer, number, line);
     check(kept(&first, 0) && kept(&second, 0) && kept(&third, 0) && kept(&fourth, 0), "the buffers are as lent", line);
@@ -643,13 +724,13 @@ static int code_at(const uint8_t *row, const uint8_t *other, size_t i, size_t pl
 /* With every two signs the same answer and the same codes, and each row negated with its own scalar or not, by both calls. */
 static void signed_joint(struct bytes k, struct bytes l, int line)
 {
-    static uint8_t k_plus[SHEETS_PLACES(66)], l_plus[SHEETS_PLACES(66)], k_codes[SHEETS_PLACES(66)], l_codes[SHEETS_PLACES(66)];
+    static uint8_t k_plus[MOST_PLACES], l_plus[MOST_PLACES], k_codes[MOST_PLACES], l_codes[MOST_PLACES];
     size_t places = SHEETS_PLACES(k.n > l.n ? k.n : l.n), i;
-    uint64_t expected = sheets_joint_codes(k.at, k.n, 0, l.at, l.n, 0, k_plus, places, l_plus, places, k_codes, places, l_codes, places);
+    uint64_t expected = by->joint_codes(k.at, k.n, 0, l.at, l.n, 0, k_plus, places, l_plus, places, k_codes, places, l_codes, places);
     for (i = 0; i < SIGNS * SIGNS; i++) {
         uint32_t ks = signs[i / SIGNS], ls = signs[i % SIGNS];
         uint8_t *p = lend(&first), *q = lend(&second), *pc = lend(&third), *qc = lend(&fourth);
-        check(sheets_joint_codes(k.at, k.n, ks, l.at, l.n, ls, p, places, q, places, pc, places, qc, places) == expected,
+        check(by->joint_codes(k.at, k.n, ks, l.at, l.n, ls, p, places, q, places, pc, places, qc, places) == expected,
               "the answer with signs", line);
         check(has_sign(p, k_plus, places, ks) && has_sign(q, l_plus, places, ls), "the rows with signs", line);
         check(memcmp(pc, k_codes, places) == 0 && memcmp(qc, l_codes, places) == 0, "the codes with signs", line);
@@ -657,7 +738,7 @@ static void signed_joint(struct bytes k, struct bytes l, int line)
         check(kept(&first, places) && kept(&second, places) && kept(&third, places) && kept(&fourth, places), "no other byte", line);
         p = lend(&first);
         q = lend(&second);
-        check(sheets_joint(k.at, k.n, ks, l.at, l.n, ls, p, places, q, places) == expected, "the joint call's answer with signs", line);
+        check(by->joint(k.at, k.n, ks, l.at, l.n, ls, p, places, q, places) == expected, "the joint call's answer with signs", line);
         check(has_sign(p, k_plus, places, ks) && has_sign(q, l_plus, places, ls), "the joint call's rows with signs", line);
         check(kept(&first, places) && kept(&second, places), "no other byte by the joint call", line);
     }
@@ -668,38 +749,39 @@ static void signed_joint(struct bytes k, struct bytes l, int line)
 static void negative_codes(void)
 {
     uint8_t value;
-    size_t i;
-    codes_are(minus(byte(13)), byte(10), (struct form){5, 4, {1, 1, 0, 0, -1}, {0, 1, 0, 1, 0}, {2, 1, 0, 0, 1}, {0, 1, 0, 1, 0}}, __LINE__);
-    codes_are(byte(13), minus(byte(10)), (struct form){5, 4, {-1, -1, 0, 0, 1}, {0, -1, 0, -1, 0}, {2, 1, 0, 0, 1}, {0, 1, 0, 1, 0}}, __LINE__);
-    codes_are(minus(byte(3)), minus(byte(2)), (struct form){2, 2, {-1, -1}, {0, -1}, {2, 1}, {0, 1}}, __LINE__);
+    size_t n = by->bytes, i;
+    form_is(minus(byte(13)), byte(10), &(const struct form){5, 4, {1, 1, 0, 0, -1}, {0, 1, 0, 1, 0}, {2, 1, 0, 0, 1}, {0, 1, 0, 1, 0}}, __LINE__);
+    form_is(byte(13), minus(byte(10)),
+            &(const struct form){5, 4, {-1, -1, 0, 0, 1}, {0, -1, 0, -1, 0}, {2, 1, 0, 0, 1}, {0, 1, 0, 1, 0}}, __LINE__);
+    form_is(minus(byte(3)), minus(byte(2)), &(const struct form){2, 2, {-1, -1}, {0, -1}, {2, 1}, {0, 1}}, __LINE__);
     for (value = 0; value < 64; value++)
         signed_joint(byte(value / 8), byte(value % 8), __LINE__);
-    for (i = 1; i <= 66; i += 13)
-        signed_joint(any_scalar(i), any_scalar(67 - i), __LINE__);
-    signed_joint(filled(255, 66), filled(0, 66), __LINE__);
+    for (i = 1; i <= n; i += 13)
+        signed_joint(any_scalar(i), any_scalar(n + 1 - i), __LINE__);
+    signed_joint(filled(255, n), filled(0, n), __LINE__);
     for (i = 0; i < SIGNS; i++) {
-        codes_are(with_sign(byte(0), signs[i]), with_sign(byte(0), signs[i]), (struct form){0, 0, {0}, {0}, {0}, {0}}, __LINE__);
-        CODES_REFUSED(with_sign(filled(1, 67), signs[i]), with_sign(byte(2), signs[i]), 1000, 1000, 1000, 1000, 1);
+        form_is(with_sign(byte(0), signs[i]), with_sign(byte(0), signs[i]), &(const struct form){0, 0, {0}, {0}, {0}, {0}}, __LINE__);
+        CODES_REFUSED(with_sign(filled(1, n + 1), signs[i]), with_sign(byte(2), signs[i]), PLENTY, PLENTY, PLENTY, PLENTY, 1);
         CODES_REFUSED(with_sign(byte(7), signs[i]), with_sign(byte(2), signs[i]), 9, 9, 9, 8, 3);
     }
 }
 
 static void codes(void)
 {
-    size_t n, i;
+    size_t most = by->bytes, room = SHEETS_PLACES(most), n, i;
 
     /* a sign that turns at 5 and at 3 beside 2, in either row; one that does not, at 7 */
-    codes_are(byte(13), byte(10), (struct form){5, 4, {-1, -1, 0, 0, 1}, {0, 1, 0, 1, 0}, {2, 1, 0, 0, 1}, {0, 1, 0, 1, 0}}, __LINE__);
-    codes_are(byte(7), byte(2), (struct form){4, 3, {-1, 0, 0, 1}, {0, 1, 0, 0}, {1, 0, 0, 1}, {0, 1, 0, 0}}, __LINE__);
-    codes_are(byte(3), byte(2), (struct form){2, 2, {1, 1}, {0, 1}, {2, 1}, {0, 1}}, __LINE__);
-    codes_are(byte(2), byte(3), (struct form){2, 2, {0, 1}, {1, 1}, {0, 1}, {2, 1}}, __LINE__);
-    codes_are(byte(0), byte(0), (struct form){0, 0, {0}, {0}, {0}, {0}}, __LINE__);
-    codes_are(byte(3), bytes_of((const uint8_t *)"\0\2", 2), (struct form){2, 2, {1, 1}, {0, 1}, {2, 1}, {0, 1}}, __LINE__);
+    form_is(byte(13), byte(10), &(const struct form){5, 4, {-1, -1, 0, 0, 1}, {0, 1, 0, 1, 0}, {2, 1, 0, 0, 1}, {0, 1, 0, 1, 0}}, __LINE__);
+    form_is(byte(7), byte(2), &(const struct form){4, 3, {-1, 0, 0, 1}, {0, 1, 0, 0}, {1, 0, 0, 1}, {0, 1, 0, 0}}, __LINE__);
+    form_is(byte(3), byte(2), &(const struct form){2, 2, {1, 1}, {0, 1}, {2, 1}, {0, 1}}, __LINE__);
+    form_is(byte(2), byte(3), &(const struct form){2, 2, {0, 1}, {1, 1}, {0, 1}, {2, 1}}, __LINE__);
+    form_is(byte(0), byte(0), &(const struct form){0, 0, {0}, {0}, {0}, {0}}, __LINE__);
+    form_is(byte(3), bytes_of((const uint8_t *)"\0\2", 2), &(const struct form){2, 2, {1, 1}, {0, 1}, {2, 1}, {0, 1}}, __LINE__);
 
-    /* 1. has each scalar 1 to 66 bytes? */
-    CODES_REFUSED(filled(1, 0), byte(2), 1000, 1000, 1000, 1000, 1);
-    CODES_REFUSED(byte(7), filled(1, 67), 1000, 1000, 1000, 1000, 1);
-    CODES_REFUSED(byte(7), filled(1, 67), 0, 0, 0, 0, 1);
+    /* 1. has each scalar a byte, and no more than the limit? */
+    CODES_REFUSED(filled(1, 0), byte(2), PLENTY, PLENTY, PLENTY, PLENTY, 1);
+    CODES_REFUSED(byte(7), filled(1, most + 1), PLENTY, PLENTY, PLENTY, PLENTY, 1);
+    CODES_REFUSED(byte(7), filled(1, most + 1), 0, 0, 0, 0, 1);
 
     /* 3. have both digit buffers room, and both code buffers, by the longer scalar? */
     CODES_REFUSED(byte(7), byte(2), 8, 9, 9, 9, 3);
@@ -709,26 +791,26 @@ static void codes(void)
     CODES_REFUSED(byte(7), byte(2), 9, 9, 0, 0, 3);
     CODES_REFUSED(byte(7), filled(0, 2), 17, 17, 9, 17, 3);
     CODES_REFUSED(filled(0, 2), byte(7), 17, 17, 17, 9, 3);
-    CODES_REFUSED(filled(255, 66), byte(7), 529, 529, 528, 529, 3);
-    CODES_REFUSED(filled(255, 66), byte(7), 529, 529, 529, 528, 3);
+    CODES_REFUSED(filled(255, most), byte(7), room, room, room - 1, room, 3);
+    CODES_REFUSED(filled(255, most), byte(7), room, room, room, room - 1, 3);
 
     /* no buffer at all */
-    CHECK(sheets_joint_codes(NULL, 0, 0, NULL, 0, 1, NULL, 0, NULL, 0, NULL, 0, NULL, 0) == (uint64_t)1 << 32);
-    CHECK(sheets_joint_codes((const uint8_t *)"\7", 1, 0, (const uint8_t *)"\2", 1, 0, NULL, 0, NULL, 0, NULL, 0, NULL, 0)
+    CHECK(by->joint_codes(NULL, 0, 0, NULL, 0, 1, NULL, 0, NULL, 0, NULL, 0, NULL, 0) == (uint64_t)1 << 32);
+    CHECK(by->joint_codes((const uint8_t *)"\7", 1, 0, (const uint8_t *)"\2", 1, 0, NULL, 0, NULL, 0, NULL, 0, NULL, 0)
           == (uint64_t)3 << 32);
-    CHECK(sheets_joint_codes((const uint8_t *)"\7", 1, 2, (const uint8_t *)"\2", 1, 1, NULL, 0, NULL, 0, NULL, 0, NULL, 0)
+    CHECK(by->joint_codes((const uint8_t *)"\7", 1, 2, (const uint8_t *)"\2", 1, 1, NULL, 0, NULL, 0, NULL, 0, NULL, 0)
           == (uint64_t)3 << 32);
 
     /* scalars of every length: the rows of the joint call, and at every place the code of its remainders */
-    for (n = 1; n <= 66; n++) {
-        static uint8_t k_row[SHEETS_PLACES(66)], l_row[SHEETS_PLACES(66)];
-        struct bytes k = any_scalar(n), l = any_scalar(1 + next_number() % 66);
+    for (n = 1; n <= most; n++) {
+        static uint8_t k_row[MOST_PLACES], l_row[MOST_PLACES];
+        struct bytes k = any_scalar(n), l = any_within();
         size_t places = SHEETS_PLACES(k.n > l.n ? k.n : l.n);
         uint8_t *p = lend(&first), *q = lend(&second), *pc = lend(&third), *qc = lend(&fourth);
-        uint64_t answer = sheets_joint_codes(k.at, k.n, k.sign, l.at, l.n, l.sign, p, places, q, places, pc, places, qc, places);
+        uint64_t answer = by->joint_codes(k.at, k.n, k.sign, l.at, l.n, l.sign, p, places, q, places, pc, places, qc, places);
         int right = 1;
         written(answer, sheets_length(answer), columns_of(p, q, places), __LINE__);
-        CHECK(answer == sheets_joint(k.at, k.n, k.sign, l.at, l.n, l.sign, k_row, places, l_row, places));
+        CHECK(answer == by->joint(k.at, k.n, k.sign, l.at, l.n, l.sign, k_row, places, l_row, places));
         CHECK(memcmp(p, k_row, places) == 0 && memcmp(q, l_row, places) == 0);
         CHECK(reads_back(p, places, k) && reads_back(q, places, l));
         for (i = 0; i < places; i++)
@@ -755,10 +837,10 @@ static struct order cheapest(uint32_t limit) { return (struct order){'C', limit,
 static uint64_t write_sheet(struct order o, struct bytes k, struct bytes l, uint8_t *sheet, size_t room)
 {
     if (o.kind == 'J')
-        return sheets_plan_j(k.at, k.n, k.sign, l.at, l.n, l.sign, sheet, room);
+        return by->plan_j(k.at, k.n, k.sign, l.at, l.n, l.sign, sheet, room);
     if (o.kind == 'I')
-        return sheets_plan_i(k.at, k.n, k.sign, l.at, l.n, l.sign, o.m1, o.m2, sheet, room);
-    return sheets_cheapest(k.at, k.n, k.sign, l.at, l.n, l.sign, o.m1, sheet, room);
+        return by->plan_i(k.at, k.n, k.sign, l.at, l.n, l.sign, o.m1, o.m2, sheet, room);
+    return by->cheapest(k.at, k.n, k.sign, l.at, l.n, l.sign, o.m1, sheet, room);
 }
 
 /* The additions that a sheet's header states, behind S, the kind, the windows and the slots. */
@@ -798,8 +880,8 @@ static int states_sign(const uint8_t *sheet, size_t length, size_t commas, struc
 static uint64_t sheet_begins(struct order o, struct bytes k, struct bytes l, const char *begins, int line)
 {
     uint8_t *sheet = lend(&first);
-    uint64_t answer = write_sheet(o, k, l, sheet, SHEETS_BYTES);
-    size_t length = length_within(answer, SHEETS_BYTES);
+    uint64_t answer = write_sheet(o, k, l, sheet, by->sheet_bytes);
+    size_t length = length_within(answer, by->sheet_bytes);
     struct bytes lines;
     written(answer, length, counted_additions(sheet, length), line);
     check(stated_additions(sheet, length) == sheets_additions(answer), "the additions of the header", line);
@@ -807,7 +889,7 @@ static uint64_t sheet_begins(struct order o, struct bytes k, struct bytes l, con
     check(states_sign(sheet, length, 7, k) && states_sign(sheet, length, 8, l), "the signs of the header", line);
     check(kept(&first, length), "no byte behind it", line);
     lines = bytes_of(sheet, length);
-    check(sheets_read(lines.at, lines.n) == 0, "the reader accepts it", line);
+    check(by->read(lines.at, lines.n) == 0, "the reader accepts it", line);
     check(only_read(lines), "the sheet is only read", line);
     check(only_read(k) & only_read(l), "the scalars are only read", line);
     return answer;
@@ -839,7 +921,7 @@ static void windows_begin(uint32_t m1, uint32_t m2, int line)
 {
     char begins[32];
     snprintf(begins, sizeof begins, "S,I,%u,%u,%u,", (unsigned)m1, (unsigned)m2, (unsigned)((m1 + m2 - 2) / 2 + (m1 >= 3 || m2 >= 3)));
-    sheet_begins(plan_i(m1, m2), any_scalar(1 + next_number() % 66), any_scalar(1 + next_number() % 66), begins, line);
+    sheet_begins(plan_i(m1, m2), any_within(), any_within(), begins, line);
 }
 
 static const char seven_two[] = "S,I,1,1,0,2,3,7,2\nL,1,0\nD\nD\nA,0,1\nD\nA,-1,0\nE\n";
@@ -850,15 +932,19 @@ static const char thirteen_ten[] =
 static const char nine[] = "S,I,5,1,3,3,4,9,0\nT,2,0\nT,3,0\nT,5,0\nL,1,0\nD\nD\nD\nA,1,0\nE\n";
 
 /*
- * The most steps. Two heavy rows: a header of 284 bytes, 12 bytes at the top place, 528 D lines, 14 bytes at every second place below, and
- * E. Then a heavy joint form; and a heavy row behind the table of the widest window.
+ * The most steps. Two heavy rows: a header with all figures, 12 bytes at the top place, a D line for each place below, 14 bytes at every
+ * second one of these, and E. Then a heavy joint form; and a heavy row behind the table of the widest window.
  */
 static void heavy_sheets(void)
 {
-    uint64_t answer = sheet_begins(plan_i(1, 1), heavy(), heavy(), "S,I,1,1,0,529,528,aaaa", __LINE__);
-    written(answer, 284 + 12 + 528 * 2 + 264 * 14 + 2, 529, __LINE__);
-    header_is(plan_j, repeated(0x24, 0x92, 0x49), repeated(0x49, 0x24, 0x92), 353, "S,J,1,1,2,353,526,2492", __LINE__);
-    header_is(plan_i(31, 1), byte(0), heavy(), 279, "S,I,31,1,16,279,529,0,aaaa", __LINE__);
+    size_t n = by->bytes, weight, places = two_of_three(&weight), header;
+    const char *begins = spelled("S,I,1,1,0,%u,%u,", (unsigned)(8 * n + 1), (unsigned)(8 * n));
+    header = strlen(begins) + 4 * n + 2;
+    written(sheet_begins(plan_i(1, 1), heavy(), heavy(), begins, __LINE__), header + 12 + 16 * n + 4 * n * 14 + 2, 8 * n + 1, __LINE__);
+    begins = spelled("S,J,1,1,2,%u,%u,", (unsigned)(weight + 1), (unsigned)(places - 1));
+    header_is(plan_j, repeated(0x24, 0x92, 0x49), repeated(0x49, 0x24, 0x92), weight + 1, begins, __LINE__);
+    begins = spelled("S,I,31,1,16,%u,%u,0,aaaa", (unsigned)(4 * n + 15), (unsigned)(8 * n + 1));
+    header_is(plan_i(31, 1), byte(0), heavy(), 4 * n + 15, begins, __LINE__);
 }
 
 /*
@@ -890,9 +976,8 @@ static void negative_sheets(void)
     };
     static const char less_nine[] = "S,I,5,1,3,3,4,-9,0\nT,2,0\nT,3,0\nT,5,0\nL,-1,0\nD\nD\nD\nA,-1,0\nE\n";
     static const char *const nine_texts[] = {nine, less_nine, nine, less_nine};
-    char ones[160] = "S,I,1,1,0,1,528,-";
-    uint64_t answer;
-    size_t i;
+    size_t n = by->bytes, header, i;
+    const char *begins;
 
     signed_sheet(cheapest(0), 7, 2, 2, seven_two_texts, __LINE__);
     signed_sheet(cheapest(31), 7, 2, 2, seven_two_texts, __LINE__);
@@ -905,26 +990,27 @@ static void negative_sheets(void)
     header_is(cheapest(2), byte(6), minus(byte(11)), 4, "S,J,1,1,2,4,3,6,-b\n", __LINE__);
     header_is(cheapest(2), minus(byte(3)), minus(byte(3)), 3, "S,I,1,1,0,3,2,-3,-3\n", __LINE__);
 
-    /* 132 figures behind a minus; the most steps with both signs minus: two bytes more in the header, a minus more at the top and fewer below */
-    for (i = strlen(ones) + 132; i-- > 17;)
-        ones[i] = 'f';
-    header_is(plan_i(1, 1), minus(filled(255, 66)), byte(0), 1, ones, __LINE__);
-    answer = sheet_begins(plan_i(1, 1), minus(heavy()), minus(heavy()), "S,I,1,1,0,529,528,-aaaa", __LINE__);
-    written(answer, 286 + 14 + 528 * 2 + 264 * 12 + 2, 529, __LINE__);
+    /* all figures behind a minus; the most steps with both signs minus: two bytes more in the header, a minus more at the top and fewer below */
+    begins = spelled("S,I,1,1,0,1,%u,-%s,0\n", (unsigned)(8 * n), times(2 * n, "f"));
+    header_is(plan_i(1, 1), minus(filled(255, n)), byte(0), 1, begins, __LINE__);
+    begins = spelled("S,I,1,1,0,%u,%u,-", (unsigned)(8 * n + 1), (unsigned)(8 * n));
+    header = strlen(begins) + 4 * n + 3;
+    written(sheet_begins(plan_i(1, 1), minus(heavy()), minus(heavy()), begins, __LINE__), header + 14 + 16 * n + 4 * n * 12 + 2, 8 * n + 1,
+            __LINE__);
 
     for (i = 0; i < SIGNS; i++) {
         /* zero is written 0 */
-        sheet_is(plan_j, with_sign(byte(0), signs[i]), with_sign(filled(0, 66), signs[i]), 2, "S,J,1,1,2,2,0,0,0\nT,1,1\nT,1,-1\nE\n", __LINE__);
-        sheet_is(plan_i(1, 1), with_sign(filled(0, 66), signs[i]), with_sign(byte(0), signs[i]), 0, "S,I,1,1,0,0,0,0,0\nE\n", __LINE__);
+        sheet_is(plan_j, with_sign(byte(0), signs[i]), with_sign(filled(0, n), signs[i]), 2, "S,J,1,1,2,2,0,0,0\nT,1,1\nT,1,-1\nE\n", __LINE__);
+        sheet_is(plan_i(1, 1), with_sign(filled(0, n), signs[i]), with_sign(byte(0), signs[i]), 0, "S,I,1,1,0,0,0,0,0\nE\n", __LINE__);
         sheet_is(cheapest(0), with_sign(byte(0), signs[i]), byte(1), 0, "S,I,1,1,0,0,0,0,1\nL,0,1\nE\n", __LINE__);
         sheet_is(cheapest(31), minus(byte(1)), with_sign(byte(0), signs[i]), 0, "S,I,1,1,0,0,0,-1,0\nL,-1,0\nE\n", __LINE__);
 
-        SHEET_REFUSED(plan_j, with_sign(filled(1, 0), signs[i]), with_sign(byte(2), signs[i]), SHEETS_BYTES, 1);
-        SHEET_REFUSED(plan_j, with_sign(byte(7), signs[i]), with_sign(byte(2), signs[i]), SHEETS_BYTES - 1, 3);
-        SHEET_REFUSED(plan_i(2, 1), with_sign(byte(7), signs[i]), with_sign(filled(1, 67), signs[i]), 0, 1);
+        SHEET_REFUSED(plan_j, with_sign(filled(1, 0), signs[i]), with_sign(byte(2), signs[i]), by->sheet_bytes, 1);
+        SHEET_REFUSED(plan_j, with_sign(byte(7), signs[i]), with_sign(byte(2), signs[i]), by->sheet_bytes - 1, 3);
+        SHEET_REFUSED(plan_i(2, 1), with_sign(byte(7), signs[i]), with_sign(filled(1, by->bytes + 1), signs[i]), 0, 1);
         SHEET_REFUSED(plan_i(1, 33), with_sign(byte(7), signs[i]), with_sign(byte(2), signs[i]), 0, 2);
         SHEET_REFUSED(plan_i(1, 1), with_sign(byte(7), signs[i]), with_sign(byte(2), signs[i]), 0, 3);
-        SHEET_REFUSED(cheapest(32), with_sign(filled(1, 67), signs[i]), with_sign(byte(2), signs[i]), 0, 1);
+        SHEET_REFUSED(cheapest(32), with_sign(filled(1, by->bytes + 1), signs[i]), with_sign(byte(2), signs[i]), 0, 1);
         SHEET_REFUSED(cheapest(32), with_sign(byte(7), signs[i]), with_sign(byte(2), signs[i]), 0, 4);
         SHEET_REFUSED(cheapest(31), with_sign(byte(7), signs[i]), with_sign(byte(2), signs[i]), 0, 3);
     }
@@ -954,67 +1040,67 @@ static void sheets(void)
     sheet_is(plan_j, byte(13), byte(10), 5, thirteen_ten, __LINE__);
     sheet_is(plan_i(5, 1), byte(9), byte(0), 3, nine, __LINE__);
     sheet_is(plan_j, byte(0), byte(0), 2, "S,J,1,1,2,2,0,0,0\nT,1,1\nT,1,-1\nE\n", __LINE__);
-    sheet_is(plan_i(1, 1), filled(0, 66), byte(0), 0, "S,I,1,1,0,0,0,0,0\nE\n", __LINE__);
+    sheet_is(plan_i(1, 1), filled(0, by->bytes), byte(0), 0, "S,I,1,1,0,0,0,0,0\nE\n", __LINE__);
     sheet_is(cheapest(31), byte(0), byte(0), 0, "S,I,1,1,0,0,0,0,0\nE\n", __LINE__);
 
     /* the longest scalars, every window, every limit, scalars of every length */
-    sheet_begins(plan_j, filled(255, 66), filled(255, 66), "S,J,1,1,2,", __LINE__);
-    sheet_begins(plan_j, filled(85, 66), filled(255, 66), "S,J,1,1,2,", __LINE__);
-    sheet_begins(plan_i(1, 1), filled(85, 66), filled(85, 66), "S,I,1,1,0,", __LINE__);
-    sheet_begins(plan_i(31, 31), filled(255, 66), filled(255, 66), "S,I,31,31,31,", __LINE__);
+    sheet_begins(plan_j, filled(255, by->bytes), filled(255, by->bytes), "S,J,1,1,2,", __LINE__);
+    sheet_begins(plan_j, filled(85, by->bytes), filled(255, by->bytes), "S,J,1,1,2,", __LINE__);
+    sheet_begins(plan_i(1, 1), filled(85, by->bytes), filled(85, by->bytes), "S,I,1,1,0,", __LINE__);
+    sheet_begins(plan_i(31, 31), filled(255, by->bytes), filled(255, by->bytes), "S,I,31,31,31,", __LINE__);
     heavy_sheets();
     for (m = 1; m <= 31; m += 2) {
         windows_begin(m, 32 - m, __LINE__);
         windows_begin(m, m, __LINE__);
     }
     for (limit = 0; limit <= 31; limit++)
-        sheet_begins(cheapest(limit), any_scalar(1 + next_number() % 66), any_scalar(1 + next_number() % 66), "S,", __LINE__);
-    for (n = 1; n <= 66; n++)
-        sheet_begins(plan_j, any_scalar(n), any_scalar(67 - n), "S,J,1,1,2,", __LINE__);
+        sheet_begins(cheapest(limit), any_within(), any_within(), "S,", __LINE__);
+    for (n = 1; n <= by->bytes; n++)
+        sheet_begins(plan_j, any_scalar(n), any_scalar(by->bytes + 1 - n), "S,J,1,1,2,", __LINE__);
 
-    /* 1. has each scalar 1 to 66 bytes? */
-    SHEET_REFUSED(plan_j, filled(1, 0), byte(2), SHEETS_BYTES, 1);
-    SHEET_REFUSED(plan_j, byte(7), filled(1, 0), SHEETS_BYTES, 1);
-    SHEET_REFUSED(plan_j, filled(1, 67), byte(2), SHEETS_BYTES, 1);
-    SHEET_REFUSED(plan_j, byte(7), filled(1, 67), 0, 1);
-    SHEET_REFUSED(plan_i(1, 1), filled(1, 0), byte(2), SHEETS_BYTES, 1);
-    SHEET_REFUSED(plan_i(1, 1), byte(7), filled(1, 67), SHEETS_BYTES, 1);
-    SHEET_REFUSED(plan_i(2, 1), filled(1, 67), byte(2), 0, 1);
-    SHEET_REFUSED(cheapest(0), filled(1, 0), byte(2), SHEETS_BYTES, 1);
-    SHEET_REFUSED(cheapest(0), byte(7), filled(1, 67), SHEETS_BYTES, 1);
-    SHEET_REFUSED(cheapest(32), filled(1, 67), byte(2), 0, 1);
+    /* 1. has each scalar a byte, and no more than the limit? */
+    SHEET_REFUSED(plan_j, filled(1, 0), byte(2), by->sheet_bytes, 1);
+    SHEET_REFUSED(plan_j, byte(7), filled(1, 0), by->sheet_bytes, 1);
+    SHEET_REFUSED(plan_j, filled(1, by->bytes + 1), byte(2), by->sheet_bytes, 1);
+    SHEET_REFUSED(plan_j, byte(7), filled(1, by->bytes + 1), 0, 1);
+    SHEET_REFUSED(plan_i(1, 1), filled(1, 0), byte(2), by->sheet_bytes, 1);
+    SHEET_REFUSED(plan_i(1, 1), byte(7), filled(1, by->bytes + 1), by->sheet_bytes, 1);
+    SHEET_REFUSED(plan_i(2, 1), filled(1, by->bytes + 1), byte(2), 0, 1);
+    SHEET_REFUSED(cheapest(0), filled(1, 0), byte(2), by->sheet_bytes, 1);
+    SHEET_REFUSED(cheapest(0), byte(7), filled(1, by->bytes + 1), by->sheet_bytes, 1);
+    SHEET_REFUSED(cheapest(32), filled(1, by->bytes + 1), byte(2), 0, 1);
 
     /* 2. is each window odd, 1 to 31? */
-    SHEET_REFUSED(plan_i(0, 1), byte(7), byte(2), SHEETS_BYTES, 2);
-    SHEET_REFUSED(plan_i(1, 4), byte(7), byte(2), SHEETS_BYTES, 2);
-    SHEET_REFUSED(plan_i(33, 1), byte(7), byte(2), SHEETS_BYTES, 2);
-    SHEET_REFUSED(plan_i(1, 33), byte(7), byte(2), SHEETS_BYTES, 2);
-    SHEET_REFUSED(plan_i(257, 1), byte(7), byte(2), SHEETS_BYTES, 2);
-    SHEET_REFUSED(plan_i(1, 257), byte(7), byte(2), SHEETS_BYTES, 2);
-    SHEET_REFUSED(plan_i(65537, 4294967295u), byte(7), byte(2), SHEETS_BYTES, 2);
+    SHEET_REFUSED(plan_i(0, 1), byte(7), byte(2), by->sheet_bytes, 2);
+    SHEET_REFUSED(plan_i(1, 4), byte(7), byte(2), by->sheet_bytes, 2);
+    SHEET_REFUSED(plan_i(33, 1), byte(7), byte(2), by->sheet_bytes, 2);
+    SHEET_REFUSED(plan_i(1, 33), byte(7), byte(2), by->sheet_bytes, 2);
+    SHEET_REFUSED(plan_i(257, 1), byte(7), byte(2), by->sheet_bytes, 2);
+    SHEET_REFUSED(plan_i(1, 257), byte(7), byte(2), by->sheet_bytes, 2);
+    SHEET_REFUSED(plan_i(65537, 4294967295u), byte(7), byte(2), by->sheet_bytes, 2);
     SHEET_REFUSED(plan_i(1, 2), byte(7), byte(2), 0, 2);
 
     /* 4. is the limit at most 31? */
-    SHEET_REFUSED(cheapest(32), byte(7), byte(2), SHEETS_BYTES, 4);
-    SHEET_REFUSED(cheapest(256), byte(7), byte(2), SHEETS_BYTES, 4);
-    SHEET_REFUSED(cheapest(65536), byte(7), byte(2), SHEETS_BYTES, 4);
-    SHEET_REFUSED(cheapest(4294967295u), byte(7), byte(2), SHEETS_BYTES, 4);
-    SHEET_REFUSED(cheapest(32), byte(7), byte(2), SHEETS_BYTES - 1, 4);
+    SHEET_REFUSED(cheapest(32), byte(7), byte(2), by->sheet_bytes, 4);
+    SHEET_REFUSED(cheapest(256), byte(7), byte(2), by->sheet_bytes, 4);
+    SHEET_REFUSED(cheapest(65536), byte(7), byte(2), by->sheet_bytes, 4);
+    SHEET_REFUSED(cheapest(4294967295u), byte(7), byte(2), by->sheet_bytes, 4);
+    SHEET_REFUSED(cheapest(32), byte(7), byte(2), by->sheet_bytes - 1, 4);
 
-    /* 3. has the sheet buffer at least 16,384 bytes? */
-    SHEET_REFUSED(plan_j, byte(7), byte(2), SHEETS_BYTES - 1, 3);
+    /* 3. has the sheet buffer as many bytes as the longest sheet may have? */
+    SHEET_REFUSED(plan_j, byte(7), byte(2), by->sheet_bytes - 1, 3);
     SHEET_REFUSED(plan_j, byte(7), byte(2), 0, 3);
-    SHEET_REFUSED(plan_i(1, 1), byte(7), byte(2), SHEETS_BYTES - 1, 3);
+    SHEET_REFUSED(plan_i(1, 1), byte(7), byte(2), by->sheet_bytes - 1, 3);
     SHEET_REFUSED(plan_i(1, 1), byte(7), byte(2), 0, 3);
-    SHEET_REFUSED(cheapest(0), byte(7), byte(2), SHEETS_BYTES - 1, 3);
+    SHEET_REFUSED(cheapest(0), byte(7), byte(2), by->sheet_bytes - 1, 3);
     SHEET_REFUSED(cheapest(31), byte(7), byte(2), 0, 3);
 
     /* no buffer at all */
-    CHECK(sheets_plan_j(NULL, 0, 0, NULL, 0, 1, NULL, 0) == (uint64_t)1 << 32);
-    CHECK(sheets_plan_i(NULL, 0, 1, NULL, 0, 0, 0, 0, NULL, 0) == (uint64_t)1 << 32);
-    CHECK(sheets_cheapest(NULL, 0, 0, NULL, 0, 0, 32, NULL, 0) == (uint64_t)1 << 32);
-    CHECK(sheets_plan_j((const uint8_t *)"\7", 1, 0, (const uint8_t *)"\2", 1, 0, NULL, 0) == (uint64_t)3 << 32);
-    CHECK(sheets_cheapest((const uint8_t *)"\7", 1, 1, (const uint8_t *)"\2", 1, 2, 0, NULL, 0) == (uint64_t)3 << 32);
+    CHECK(by->plan_j(NULL, 0, 0, NULL, 0, 1, NULL, 0) == (uint64_t)1 << 32);
+    CHECK(by->plan_i(NULL, 0, 1, NULL, 0, 0, 0, 0, NULL, 0) == (uint64_t)1 << 32);
+    CHECK(by->cheapest(NULL, 0, 0, NULL, 0, 0, 32, NULL, 0) == (uint64_t)1 << 32);
+    CHECK(by->plan_j((const uint8_t *)"\7", 1, 0, (const uint8_t *)"\2", 1, 0, NULL, 0) == (uint64_t)3 << 32);
+    CHECK(by->cheapest((const uint8_t *)"\7", 1, 1, (const uint8_t *)"\2", 1, 2, 0, NULL, 0) == (uint64_t)3 << 32);
     negative_sheets();
 }
 
@@ -1022,7 +1108,7 @@ static void sheets(void)
 
 static void read_is(struct bytes sheet, uint32_t number, uint32_t at, int line)
 {
-    uint64_t answer = sheets_read(sheet.at, sheet.n);
+    uint64_t answer = by->read(sheet.at, sheet.n);
     check(answer == ((uint64_t)number << 32 | at), "the whole answer", line);
     check(sheets_number(answer) == number && answer >> 32 == number, "the question", line);
     check(sheets_line(answer) == at && (answer & 0xffffffff) == at, "the line", line);
@@ -1031,19 +1117,11 @@ static void read_is(struct bytes sheet, uint32_t number, uint32_t at, int line)
 
 #define READ(sheet, number, at) read_is(text(sheet), (number), (at), __LINE__)
 
-/* A sheet of plan I for 2^528 - 1 behind this sign, with so many D lines between a load of the top digit and the last. */
-static struct bytes long_sheet(unsigned doublings, const char *sign, const char *top, const char *last)
+/* A sheet of plan I for so many figures f behind this sign, with so many D lines between a load of the top digit and the last. */
+static struct bytes long_sheet(unsigned figures, unsigned doublings, const char *sign, const char *top, const char *last)
 {
-    static char all[4096];
-    unsigned i;
-    size_t n = (size_t)snprintf(all, sizeof all, "S,I,1,1,0,1,%u,%s", doublings, sign);
-    for (i = 0; i < 132; i++)
-        all[n++] = 'f';
-    n += (size_t)snprintf(all + n, sizeof all - n, ",0\nL,%s,0\n", top);
-    for (i = 0; i < doublings; i++)
-        n += (size_t)snprintf(all + n, sizeof all - n, "D\n");
-    n += (size_t)snprintf(all + n, sizeof all - n, "A,%s,0\nE\n", last);
-    return bytes_of((const uint8_t *)all, n);
+    return text(spelled("S,I,1,1,0,1,%u,%s%s,0\nL,%s,0\n%sA,%s,0\nE\n", doublings, sign, times(figures, "f"), top, times(doublings, "D\n"),
+                        last));
 }
 
 /* A sheet of eight lines, with every byte replaced by every other, and cut at every byte. */
@@ -1058,13 +1136,13 @@ static void damaged(const char *good)
             if (value != (uint8_t)good[i]) {
                 uint64_t answer;
                 sheet.at[i] = (uint8_t)value;
-                answer = sheets_read(sheet.at, sheet.n);
+                answer = by->read(sheet.at, sheet.n);
                 refused &= 6 <= sheets_number(answer) && sheets_number(answer) <= 11;
                 placed &= 1 <= sheets_line(answer) && sheets_line(answer) <= 9;
             }
         free(sheet.at);
         free(sheet.copy);
-        cut &= sheets_number(sheets_read(prefix.at, prefix.n)) == 6;
+        cut &= sheets_number(by->read(prefix.at, prefix.n)) == 6;
         CHECK(only_read(prefix));
     }
     CHECK(refused);
@@ -1075,11 +1153,13 @@ static void damaged(const char *good)
 /* Signs in the header. */
 static void negative_readings(void)
 {
+    unsigned figures = by->figures, most = by->doublings;
+
     READ(less_seven_two, 0, 0);
     READ(seven_less_two, 0, 0);
     READ(less_seven_less_two, 0, 0);
 
-    /* 6. a minus stands alone before figures, of which there are 132 at most, and not before 0 */
+    /* 6. a minus stands alone before figures, of which there are no more than the limit, and not before 0 */
     READ("S,I,1,1,0,0,0,-0,0\nE\n", 6, 1);
     READ("S,I,1,1,0,0,0,0,-0\nE\n", 6, 1);
     READ("S,I,1,1,0,2,3,-07,2\nE\n", 6, 1);
@@ -1097,15 +1177,17 @@ static void negative_readings(void)
     READ("S,I,1,1,0,2,3,7,2\nL,1,0\nD\nD\nA,0,-1\nD\nA,-1,0\nE\n", 11, 1);
     READ("S,I,1,1,0,0,0,-1,0\nE\n", 11, 1);
 
-    /* 2^528 - 1 with a minus, its steps, and those without */
-    read_is(long_sheet(528, "-", "-1", "1"), 0, 0, __LINE__);
-    read_is(long_sheet(528, "-", "1", "-1"), 11, 1, __LINE__);
-    read_is(long_sheet(528, "", "-1", "1"), 11, 1, __LINE__);
-    read_is(long_sheet(528, "-f", "-1", "1"), 6, 1, __LINE__);
+    /* the longest scalar with a minus, its steps, and those without */
+    read_is(long_sheet(figures, most, "-", "-1", "1"), 0, 0, __LINE__);
+    read_is(long_sheet(figures, most, "-", "1", "-1"), 11, 1, __LINE__);
+    read_is(long_sheet(figures, most, "", "-1", "1"), 11, 1, __LINE__);
+    read_is(long_sheet(figures + 1, most, "-", "-1", "1"), 6, 1, __LINE__);
 }
 
 static void readings(void)
 {
+    unsigned figures = by->figures, most = by->doublings;
+
     READ(seven_two, 0, 0);
     READ(thirteen_ten, 0, 0);
     READ(nine, 0, 0);
@@ -1113,10 +1195,10 @@ static void readings(void)
     /* a sheet for 3, 0 that no call writes */
     READ("S,I,1,1,0,2,2,3,0\nL,1,0\nD\nA,-1,0\nD\nA,1,0\nE\n", 0, 0);
 
-    /* 5. is it at most 16,384 bytes? */
-    read_is(filled('\n', 16385), 5, 0, __LINE__);
-    read_is(filled('\n', 16384), 6, 1, __LINE__);
-    read_is(filled('D', 16385), 5, 0, __LINE__);
+    /* 5. has it no more bytes than the limit? */
+    read_is(filled('\n', by->sheet_bytes + 1), 5, 0, __LINE__);
+    read_is(filled('\n', by->sheet_bytes), 6, 1, __LINE__);
+    read_is(filled('D', by->sheet_bytes + 1), 5, 0, __LINE__);
 
     /* 6. is each line spelled and placed as it must be? */
     read_is(filled(0, 0), 6, 1, __LINE__);
@@ -1154,10 +1236,10 @@ static void readings(void)
     READ("S,I,1,1,0,2,3,7,2\nL,1,0\nD\nD\nA,0,1\nA,0,1\nD\nA,-1,0\nE\n", 8, 6);
     READ("S,J,1,1,2,3,0,1,1\nT,1,1\nT,1,-1\nL,1,0\nA,0,1\nE\n", 8, 5);
 
-    /* 9. are there at most 528 D lines? */
-    read_is(long_sheet(528, "", "1", "-1"), 0, 0, __LINE__);
-    read_is(long_sheet(529, "", "1", "-1"), 9, 531, __LINE__);
-    read_is(long_sheet(700, "", "1", "-1"), 9, 531, __LINE__);
+    /* 9. are there no more D lines than the limit? */
+    read_is(long_sheet(figures, most, "", "1", "-1"), 0, 0, __LINE__);
+    read_is(long_sheet(figures, most + 1, "", "1", "-1"), 9, most + 3, __LINE__);
+    read_is(long_sheet(figures, most + 172, "", "1", "-1"), 9, most + 3, __LINE__);
 
     /* 10. are both counts true? */
     READ("S,I,1,1,0,3,3,7,2\nL,1,0\nD\nD\nA,0,1\nD\nA,-1,0\nE\n", 10, 1);
@@ -1181,14 +1263,253 @@ static void readings(void)
     damaged(less_seven_less_two);
 }
 
+/* ---- the limits ---- */
+
+/*
+ * Scalars of so many bytes, all of them 255, by every call. Where the set takes them: 2^(8n) - 1 has a digit at place 0 and one at place 8n,
+ * and a buffer one short is refused. Where it does not they are refused first, whatever else is missed.
+ */
+static void taken(size_t n)
+{
+    struct form form = {8 * n + 1, 2, {-1}, {-1}, {1}, {1}};
+    const char *figures = times(2 * n, "f"), *doublings = times(8 * n, "D\n");
+    size_t places = 8 * n + 1, i;
+
+    form.k_digits[8 * n] = form.l_digits[8 * n] = 1;
+    form.k_codes[8 * n] = form.l_codes[8 * n] = 1;
+    row_is(filled(255, n), 1, places, 2, form.k_digits, places, __LINE__);
+    row_is(filled(255, n), 31, places, 2, form.k_digits, places, __LINE__);
+    ROW_REFUSED(filled(255, n), 1, places - 1, 3);
+    ROW_REFUSED(filled(255, n), 32, places - 1, 2);
+    joint_is(filled(255, n), filled(255, n), 2, form.k_digits, form.l_digits, places, __LINE__);
+    JOINT_REFUSED(filled(255, n), byte(7), places - 1, places, 3);
+    JOINT_REFUSED(byte(7), filled(255, n), places, places - 1, 3);
+    form_is(filled(255, n), filled(255, n), &form, __LINE__);
+    for (i = 0; i < 4; i++)
+        CODES_REFUSED(filled(255, n), byte(7), places - (i == 0), places - (i == 1), places - (i == 2), places - (i == 3), 3);
+
+    sheet_is(plan_j, filled(255, n), filled(255, n), 3,
+             spelled("S,J,1,1,2,3,%u,%s,%s\nT,1,1\nT,1,-1\nL,1,1\n%sA,-1,-1\nE\n", (unsigned)(8 * n), figures, figures, doublings), __LINE__);
+    for (i = 0; i < 2; i++)
+        sheet_is(i == 0 ? plan_i(1, 1) : cheapest(31), filled(255, n), byte(0), 1,
+                 spelled("S,I,1,1,0,1,%u,%s,0\nL,1,0\n%sA,-1,0\nE\n", (unsigned)(8 * n), figures, doublings), __LINE__);
+    SHEET_REFUSED(plan_j, filled(255, n), filled(255, n), by->sheet_bytes - 1, 3);
+    SHEET_REFUSED(plan_i(1, 1), filled(255, n), byte(0), by->sheet_bytes - 1, 3);
+    SHEET_REFUSED(plan_i(1, 33), filled(255, n), byte(0), by->sheet_bytes - 1, 2);
+    SHEET_REFUSED(cheapest(31), byte(0), filled(255, n), by->sheet_bytes - 1, 3);
+    SHEET_REFUSED(cheapest(32), byte(0), filled(255, n), by->sheet_bytes - 1, 4);
+}
+
+static void not_taken(size_t n)
+{
+    static const size_t rooms[] = {0, PLENTY, SHEETS_BYTES, SHEETS_GATEWAY_BYTES};
+    size_t i;
+    for (i = 0; i < sizeof rooms / sizeof *rooms; i++) {
+        size_t room = rooms[i];
+        ROW_REFUSED(filled(255, n), 1, room, 1);
+        ROW_REFUSED(filled(255, n), 32, room, 1);
+        JOINT_REFUSED(filled(255, n), byte(7), room, room, 1);
+        JOINT_REFUSED(byte(7), filled(255, n), room, room, 1);
+        CODES_REFUSED(filled(255, n), byte(7), room, room, room, room, 1);
+        CODES_REFUSED(byte(7), filled(255, n), room, room, room, room, 1);
+        SHEET_REFUSED(plan_j, filled(255, n), byte(7), room, 1);
+        SHEET_REFUSED(plan_j, byte(7), filled(255, n), room, 1);
+        SHEET_REFUSED(plan_i(31, 31), filled(255, n), byte(7), room, 1);
+        SHEET_REFUSED(plan_i(2, 33), byte(7), filled(255, n), room, 1);
+        SHEET_REFUSED(cheapest(31), filled(255, n), byte(7), room, 1);
+        SHEET_REFUSED(cheapest(32), byte(7), filled(255, n), room, 1);
+    }
+}
+
+static void scalar_limits(void)
+{
+    uint8_t ones[128], aa[128];
+    memset(ones, 0xff, sizeof ones);
+    memset(aa, 0xaa, sizeof aa);
+    aa[127] = 0xab;
+
+    by = &card;
+    taken(66);
+    not_taken(67);
+    not_taken(128);
+    not_taken(129);
+
+    by = &gateway;
+    taken(66);
+    taken(67);
+    taken(128);
+    not_taken(129);
+
+    /* 128 bytes of 255 have 1,025 places; the heaviest row for window 1 has 513 digits that are not 0, and two of them 1,025 additions */
+    written(gateway.row(ones, 128, 0, 1, lend(&first), 1025), 1025, 2, __LINE__);
+    written(gateway.row(aa, 128, 1, 1, lend(&first), 1025), 1025, 513, __LINE__);
+    written(gateway.plan_i(aa, 128, 0, aa, 128, 0, 1, 1, lend(&first), 32768), 534 + 12 + 1024 * 2 + 512 * 14 + 2, 1025, __LINE__);
+
+    /* the card's sheet buffer is too small at the gateway, and large enough at the card */
+    SHEET_REFUSED(plan_j, byte(7), byte(2), SHEETS_BYTES, 3);
+    SHEET_REFUSED(plan_i(1, 1), byte(7), byte(2), SHEETS_BYTES, 3);
+    SHEET_REFUSED(cheapest(0), byte(7), byte(2), SHEETS_BYTES, 3);
+    SHEET_REFUSED(cheapest(0), byte(7), byte(2), SHEETS_GATEWAY_BYTES - 1, 3);
+    by = &card;
+    written(card.plan_i(ones, 66, 0, ones, 66, 0, 1, 1, lend(&first), 16384), 282 + 12 + 528 * 2 + 14 + 2, 3, __LINE__);
+}
+
+/* A sheet that is to have these answers, the number and the line, at the card and at the gateway. */
+static void read_at_both(struct bytes sheet, uint32_t card_number, uint32_t card_line, uint32_t gateway_number, uint32_t gateway_line, int line)
+{
+    by = &card;
+    read_is(bytes_of(sheet.at, sheet.n), card_number, card_line, line);
+    by = &gateway;
+    read_is(sheet, gateway_number, gateway_line, line);
+}
+
+#define READ_AT_BOTH(sheet, card_number, card_line, gateway_number, gateway_line) \
+    read_at_both((sheet), (card_number), (card_line), (gateway_number), (gateway_line), __LINE__)
+
+/*
+ * A sheet of plan I 5, 1 for 1, 1 whose steps cancel: P is loaded above so many D lines and taken off at each place below; Q is added at the
+ * place q, which is below the top, and taken off at each place below that. 56 bytes, 9 for each D line, and 7 for each place below q.
+ */
+static struct bytes cancelling(unsigned doublings, unsigned q)
+{
+    static char all[MOST];
+    unsigned place = doublings;
+    size_t n = (size_t)sprintf(all, "S,I,5,1,3,%u,%u,1,1\nT,2,0\nT,3,0\nT,5,0\nL,1,0\n", doublings + q + 3, doublings + 1);
+    while (place-- > 0)
+        n += (size_t)sprintf(all + n, "D\nA,-1,0\n%s", place > q ? "" : place == q ? "A,0,1\n" : "A,0,-1\n");
+    n += (size_t)sprintf(all + n, "E\n");
+    return bytes_of((const uint8_t *)all, n);
+}
+
+/* The cancelling sheet, which is to have so many bytes. */
+static struct bytes of_length(size_t n, unsigned doublings, unsigned q)
+{
+    struct bytes sheet = cancelling(doublings, q);
+    CHECK(sheet.n == n);
+    return sheet;
+}
+
+static void reading_limits(void)
+{
+    /* 528, 529, 1,024 and 1,025 D lines */
+    READ_AT_BOTH(cancelling(528, 0), 0, 0, 0, 0);
+    READ_AT_BOTH(cancelling(529, 0), 9, 1062, 0, 0);
+    READ_AT_BOTH(cancelling(1024, 0), 9, 1062, 0, 0);
+    READ_AT_BOTH(cancelling(1025, 0), 9, 1062, 9, 2054);
+    READ_AT_BOTH(cancelling(1500, 0), 9, 1062, 9, 2054);
+
+    /*
+     * 16,384, 16,385, 32,768 and 32,769 bytes. Within the limits of D lines and figures a sheet has at most 10,026 bytes at the card and 19,203
+     * at the gateway, so a sheet of exactly 16,384 bytes misses a later question at the card, and one of 32,768 at the gateway: here 9.
+     */
+    READ_AT_BOTH(of_length(16384, 1024, 1016), 9, 1583, 0, 0);
+    READ_AT_BOTH(of_length(16385, 1021, 1020), 5, 0, 0, 0);
+    READ_AT_BOTH(of_length(32768, 2048, 2040), 5, 0, 9, 3071);
+    READ_AT_BOTH(of_length(32769, 2045, 2044), 5, 0, 5, 0);
+    READ_AT_BOTH(filled('\n', 16384), 6, 1, 6, 1);
+    READ_AT_BOTH(filled('\n', 16385), 5, 0, 6, 1);
+    READ_AT_BOTH(filled('\n', 32768), 5, 0, 6, 1);
+    READ_AT_BOTH(filled('\n', 32769), 5, 0, 5, 0);
+
+    /* 132, 133, 256 and 257 figures, and their steps: 2^(4n) - 1 in 4n D lines; 6 comes before 9 */
+    READ_AT_BOTH(long_sheet(132, 528, "", "1", "-1"), 0, 0, 0, 0);
+    READ_AT_BOTH(long_sheet(133, 532, "", "1", "-1"), 6, 1, 0, 0);
+    READ_AT_BOTH(long_sheet(256, 1024, "", "1", "-1"), 6, 1, 0, 0);
+    READ_AT_BOTH(long_sheet(257, 1028, "", "1", "-1"), 6, 1, 6, 1);
+    READ_AT_BOTH(long_sheet(132, 528, "-", "-1", "1"), 0, 0, 0, 0);
+    READ_AT_BOTH(long_sheet(133, 532, "-", "-1", "1"), 6, 1, 0, 0);
+    READ_AT_BOTH(long_sheet(256, 1024, "-", "-1", "1"), 6, 1, 0, 0);
+    READ_AT_BOTH(long_sheet(257, 1028, "-", "-1", "1"), 6, 1, 6, 1);
+
+    /* the same figures for Q; 2^528 - 2, 2^529 - 1, 2^528, 2^1023 and 2^1024; and results that are not the header's */
+    READ_AT_BOTH(text(spelled("S,I,1,1,0,1,1024,0,%s\nL,0,1\n%sA,0,-1\nE\n", times(256, "f"), times(1024, "D\n"))), 6, 1, 0, 0);
+    READ_AT_BOTH(text(spelled("S,I,1,1,0,1,1024,0,%sf\nL,0,1\n%sA,0,-1\nE\n", times(256, "f"), times(1024, "D\n"))), 6, 1, 6, 1);
+    READ_AT_BOTH(text(spelled("S,I,1,1,0,1,528,%se,0\nL,1,0\n%sA,-1,0\nD\nE\n", times(131, "f"), times(527, "D\n"))), 0, 0, 0, 0);
+    READ_AT_BOTH(text(spelled("S,I,1,1,0,1,529,1%s,0\nL,1,0\n%sA,-1,0\nE\n", times(132, "f"), times(529, "D\n"))), 6, 1, 0, 0);
+    READ_AT_BOTH(text(spelled("S,I,1,1,0,0,528,1%s,0\nL,1,0\n%sE\n", times(132, "0"), times(528, "D\n"))), 6, 1, 0, 0);
+    READ_AT_BOTH(text(spelled("S,I,1,1,0,0,1023,8%s,0\nL,1,0\n%sE\n", times(255, "0"), times(1023, "D\n"))), 6, 1, 0, 0);
+    READ_AT_BOTH(text(spelled("S,I,1,1,0,0,1024,1%s,0\nL,1,0\n%sE\n", times(256, "0"), times(1024, "D\n"))), 6, 1, 6, 1);
+    READ_AT_BOTH(long_sheet(132, 528, "-", "1", "-1"), 11, 1, 11, 1);
+    READ_AT_BOTH(long_sheet(133, 528, "", "1", "-1"), 6, 1, 11, 1);
+    READ_AT_BOTH(long_sheet(256, 1023, "", "1", "-1"), 6, 1, 11, 1);
+    READ_AT_BOTH(long_sheet(132, 529, "", "1", "-1"), 9, 531, 11, 1);
+    READ_AT_BOTH(long_sheet(132, 1025, "", "1", "-1"), 9, 531, 9, 1027);
+}
+
+/* A call for a sheet at both, each in a buffer of its own size: the same answer and the same sheet, which both accept. */
+static void same_sheet(struct order o, struct bytes k, struct bytes l, int line)
+{
+    uint8_t *sheet = lend(&first), *wide = lend(&second);
+    uint64_t answer;
+    size_t length;
+    by = &card;
+    answer = write_sheet(o, k, l, sheet, card.sheet_bytes);
+    length = length_within(answer, card.sheet_bytes);
+    by = &gateway;
+    written(write_sheet(o, k, l, wide, gateway.sheet_bytes), length, sheets_additions(answer), line);
+    check(memcmp(first.all, second.all, sizeof first.all) == 0, "the card's sheet", line);
+    check(card.read(sheet, length) == 0 && gateway.read(wide, length) == 0, "both accept it", line);
+    check(only_read(k) & only_read(l), "the scalars are only read", line);
+}
+
+/* The row, and the joint form with its codes, at both. */
+static void same_digits(struct bytes k, struct bytes l, int line)
+{
+    static struct lent lent[4];
+    static struct lent *const again[] = {&first, &second, &third, &fourth};
+    size_t places = SHEETS_PLACES(k.n > l.n ? k.n : l.n), i;
+    uint64_t answer;
+    uint32_t m;
+    for (m = 1; m <= 31; m += 2) {
+        answer = card.row(k.at, k.n, k.sign, m, lend(&first), places);
+        written(gateway.row(k.at, k.n, k.sign, m, lend(&second), places), length_within(answer, places), sheets_weight(answer), line);
+        check(memcmp(first.all, second.all, sizeof first.all) == 0, "the card's row", line);
+    }
+    answer = card.joint_codes(k.at, k.n, k.sign, l.at, l.n, l.sign, lend(&lent[0]), places, lend(&lent[1]), places, lend(&lent[2]), places,
+                              lend(&lent[3]), places);
+    check(gateway.joint_codes(k.at, k.n, k.sign, l.at, l.n, l.sign, lend(&first), places, lend(&second), places, lend(&third), places,
+                              lend(&fourth), places)
+              == answer,
+          "the card's answer with codes", line);
+    for (i = 0; i < 4; i++)
+        check(memcmp(lent[i].all, again[i]->all, sizeof lent[i].all) == 0, "the card's digits and codes", line);
+    written(gateway.joint(k.at, k.n, k.sign, l.at, l.n, l.sign, lend(&first), places, lend(&second), places), length_within(answer, places),
+            sheets_weight(answer), line);
+    for (i = 0; i < 2; i++)
+        check(memcmp(lent[i].all, again[i]->all, sizeof lent[i].all) == 0, "the card's joint form", line);
+    check(only_read(k) & only_read(l), "the scalars are only read", line);
+}
+
+/* What the card takes the gateway takes, with the same answer and the same bytes. */
+static void same_at_both(void)
+{
+    size_t n;
+    for (n = 1; n <= 66; n++) {
+        same_digits(any_scalar(n), any_scalar(67 - n), __LINE__);
+        same_sheet(plan_j, any_scalar(n), any_scalar(67 - n), __LINE__);
+        same_sheet(plan_i(1 + 2 * (next_number() % 16), 1 + 2 * (next_number() % 16)), any_scalar(n), any_scalar(67 - n), __LINE__);
+        same_sheet(cheapest(next_number() % 32), any_scalar(n), any_scalar(67 - n), __LINE__);
+    }
+}
+
 int main(void)
 {
+    static const struct calls *const sets[] = {&card, &gateway};
+    size_t i;
+
     parts();
-    rows();
-    joints();
-    codes();
-    sheets();
-    readings();
+    CHECK(card.sheet_bytes == SHEETS_BYTES && gateway.sheet_bytes == SHEETS_GATEWAY_BYTES);
+    for (i = 0; i < sizeof sets / sizeof *sets; i++) {
+        by = sets[i];
+        rows();
+        joints();
+        codes();
+        sheets();
+        readings();
+    }
+    scalar_limits();
+    reading_limits();
+    same_at_both();
     printf("host: %lu checks, %lu failed\n", checks, failed);
     return failed != 0;
 }

@@ -7,7 +7,7 @@ use native.Mathlib.Omega.{arith}
 use lib.IntN.{pos}
 use lib.ListN.{length}
 use Rattle.digits.specs.Column as Columns
-use Rattle.digits.specs.Limits.{card}
+use Rattle.digits.specs.Limits.{gateway}
 use Rattle.digits.specs.Scalar.{Bytes, scalar, signedScalar}
 use Rattle.digits.specs.Scalar.Sized.{bytes-sized, both-sized}
 use Rattle.digits.specs.Two.{P, Q, two}
@@ -36,37 +36,37 @@ pub record Fit (r : Recoded) : Type 0 where
   pub weight-fits : weightWritten r < 4294967296
 
 -- the size of a row
-module _ (s : List ℕ) (m : ℕ) (buffer : List ℕ) {r : Recoded} (answer : r ≡ rowAnswer card s 0 m (length buffer)) where
+module _ (s : List ℕ) (m : ℕ) (buffer : List ℕ) {r : Recoded} (answer : r ≡ rowAnswer gateway s 0 m (length buffer)) where
   pub row-fits : Bytes s → Fit r
   row-fits b =
-      let h = row-short card s 0 m (length buffer) b in
+      let h = row-short gateway s 0 m (length buffer) b in
       record {
         places-fit = omega (arith, ap placesWritten answer, h .length-most);
         weight-fits = omega (arith, ap weightWritten answer, h .length-most, h .weight-most);
       }
 
-  pub row-measured : 1 ≤ length s → length s ≤ 66 → m % 2 ≡ 1 → m ≤ 31 → 8 * length s + 1 ≤ length buffer
+  pub row-measured : 1 ≤ length s → length s ≤ gateway .bytes → m % 2 ≡ 1 → m ≤ 31 → 8 * length s + 1 ≤ length buffer
       → {n w : ℕ} → n ≡ placesWritten r → w ≡ weightWritten r → record { places = n; weight = w } ≡ rowOf (row m (pos (scalar s)))
   unfolding signedScalar
   row-measured h l o t room =
       as-told (answer
-      ∙ sym (RowAnswers.written card s 0 m buffer (bytes-sized card s (h, l)) (of-window (record { odd = o; within = t })) (wroteRow (row m (pos (scalar s))))
+      ∙ sym (RowAnswers.written gateway s 0 m buffer (bytes-sized gateway s (h, l)) (of-window (record { odd = o; within = t })) (wroteRow (row m (pos (scalar s))))
       (filled (row m (pos (scalar s))) buffer) room refl refl .0))
 
 -- the size of a joint form
-module _ (s t k l : List ℕ) {r : Recoded} (answer : r ≡ jointAnswer card s 0 t 0 (length k) (length l)) where
+module _ (s t k l : List ℕ) {r : Recoded} (answer : r ≡ jointAnswer gateway s 0 t 0 (length k) (length l)) where
   pub joint-fits : Bytes s → Bytes t → Fit r
   joint-fits b c =
-      let h = joint-short card s 0 t 0 (length k) (length l) b c in
+      let h = joint-short gateway s 0 t 0 (length k) (length l) b c in
       record {
         places-fit = omega (arith, ap placesWritten answer, h .length-most);
         weight-fits = omega (arith, ap weightWritten answer, h .length-most, h .weight-most);
       }
 
-  pub joint-measured : 1 ≤ length s → length s ≤ 66 → 1 ≤ length t → length t ≤ 66 → 529 ≤ length k → 529 ≤ length l
+  pub joint-measured : 1 ≤ length s → length s ≤ gateway .bytes → 1 ≤ length t → length t ≤ gateway .bytes → 1025 ≤ length k → 1025 ≤ length l
       → {n w : ℕ} → n ≡ placesWritten r → w ≡ weightWritten r → record { places = n; weight = w } ≡ columnsOf (joint (pos (scalar s)) (pos (scalar t)))
   unfolding signedScalar
   joint-measured h g i j x y =
       as-told (answer
-      ∙ sym (JointAnswers.written card s 0 t 0 k l (both-sized card s t (bytes-sized card s (h, g)) (bytes-sized card t (i, j))) (omega arith) (wroteColumns (joint (pos (scalar s)) (pos (scalar t))))
+      ∙ sym (JointAnswers.written gateway s 0 t 0 k l (both-sized gateway s t (bytes-sized gateway s (h, g)) (bytes-sized gateway t (i, j))) (omega arith) (wroteColumns (joint (pos (scalar s)) (pos (scalar t))))
       (filled (Columns.row two P (joint (pos (scalar s)) (pos (scalar t)))) k) (filled (Columns.row two Q (joint (pos (scalar s)) (pos (scalar t)))) l) (omega arith) refl refl refl .0))

@@ -8,7 +8,7 @@ use mathlib.Core.List.{List, [], _∷_}
 use Prim.Native.Nat.{ℕ, _≤_}
 use lib.IntN.{ℤ, pos}
 use lib.ListN.{length, take}
-use Rattle.digits.specs.Limits.{Limits, card}
+use Rattle.digits.specs.declared.limits.Limits.{Limits}
 use Rattle.digits.specs.Missed.{missed}
 use Rattle.digits.specs.Scalar.{scalar, signedScalar, sized}
 use Rattle.sheet.specs.Answer.{Accepted, heading, sheetSlots, sheetAdditions}
@@ -68,24 +68,24 @@ cheapestBuffer limits k k-sign l l-sign limit buffer =
     left (cheapestAnswer limits k k-sign l l-sign limit (length buffer)) (cheapest (signedScalar k k-sign) (signedScalar l l-sign) limit) buffer
 
 -- what demand 3 asks of a sheet s for k and l under a limit that is said to have a additions
-pub record Cheapest (s : List ℕ) (k l : ℤ) (limit a : ℕ) : Type 0 where
+pub record Cheapest (limits : Limits) (s : List ℕ) (k l : ℤ) (limit a : ℕ) : Type 0 where
   -- its plan comes before every other within the limit, and its digits are 01's of that plan
-  pub planned : First k l limit (plan (heading (lines card s)))
-  pub digits-are : columns (lines card s) ≡ digits (plan (heading (lines card s))) k l
-  pub accepted : Accepted card s k l
-  pub within : sheetSlots card s ≤ limit
+  pub planned : First k l limit (plan (heading (lines limits s)))
+  pub digits-are : columns (lines limits s) ≡ digits (plan (heading (lines limits s))) k l
+  pub accepted : Accepted limits s k l
+  pub within : sheetSlots limits s ≤ limit
   -- a additions: its header states them, and its lines have them
-  pub stated : heading (lines card s) .additions ≡ a
-  pub counted : sheetAdditions card s ≡ a
+  pub stated : heading (lines limits s) .additions ≡ a
+  pub counted : sheetAdditions limits s ≡ a
   -- and its header states the doublings by which the plan was compared
-  pub doubled : heading (lines card s) .doublings ≡ writtenDoublings (plan (heading (lines card s))) k l
-  -- every accepted sheet for k and l within the limit, from anybody, has at least as many
-  pub least : (t : List ℕ) → Accepted card t k l → sheetSlots card t ≤ limit → a ≤ sheetAdditions card t
+  pub doubled : heading (lines limits s) .doublings ≡ writtenDoublings (plan (heading (lines limits s))) k l
+  -- every sheet that is accepted under the same limits for k and l within the limit, from anybody, has at least as many
+  pub least : (t : List ℕ) → Accepted limits t k l → sheetSlots limits t ≤ limit → a ≤ sheetAdditions limits t
 
 -- what the call promises: where it has written n bytes, they are such a sheet
-abbrev pub Promised : Sheet → List ℕ → ℤ → ℤ → ℕ → Type 0
-Promised BadScalar buffer k l limit = Unit {0}
-Promised BadWindow buffer k l limit = Unit {0}
-Promised NoRoom buffer k l limit = Unit {0}
-Promised BadLimit buffer k l limit = Unit {0}
-Promised (Written n a) buffer k l limit = Cheapest (take n buffer) k l limit a
+abbrev pub Promised : Limits → Sheet → List ℕ → ℤ → ℤ → ℕ → Type 0
+Promised limits BadScalar buffer k l limit = Unit {0}
+Promised limits BadWindow buffer k l limit = Unit {0}
+Promised limits NoRoom buffer k l limit = Unit {0}
+Promised limits BadLimit buffer k l limit = Unit {0}
+Promised limits (Written n a) buffer k l limit = Cheapest limits (take n buffer) k l limit a

@@ -3,6 +3,7 @@ ghost use mathlib.Core.Bool.{cond};
 ghost use Prim.Native.Nat.{_-_, _*_, _/_, _<_, _≤_};
 ghost use lib.IntN.{pos};
 ghost use lib.ListN.{length, getD};
+ghost use Rattle.digits.specs.Limits.{gateway};
 ghost use Rattle.digits.specs.Scalar.{scalar};
 ghost use Rattle.sheet.specs.declared.Plan.{Plan};
 ghost use Rattle.sheet.specs.Plan.{isWithin};
@@ -227,7 +228,7 @@ fn least_plan(k: &[u32], l: &[u32], joint: Size, limit: u32) -> Plan
 
 // The first plan within the limit for two scalars.
 pub fn first_plan(k: &[u8], l: &[u8], limit: u32) -> Plan
-    requires { ⌜ (1 ≤ length (now k)) × ((length (now k) ≤ 66) × ((1 ≤ length (now l)) × (length (now l) ≤ 66))) ⌝ }
+    requires { ⌜ (1 ≤ length (now k)) × ((length (now k) ≤ gateway .bytes) × ((1 ≤ length (now l)) × (length (now l) ≤ gateway .bytes))) ⌝ }
     ensures { λ r. ⌜ r ≡ cheapestPlan (pos (scalar (now (k .entry)))) (pos (scalar (now (l .entry)))) limit ⌝ }
 {
     let k_sizes = crate::sizes::row_sizes(k, limit);

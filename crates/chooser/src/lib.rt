@@ -6,5 +6,6 @@ mod sizes;
 pub use call::Choice;
 pub use call::cheapest;
 pub use call::cheapest_plan;
+pub use call::gateway_cheapest;
 pub use choice::Candidate;
 pub use choice::Cost;

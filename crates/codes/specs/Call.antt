@@ -10,7 +10,7 @@ use Prim.Native.Nat.{ℕ, _-_, max}
 use lib.IntN.{ℤ, pos}
 use lib.ListN.{length, getD, replicate}
 use Rattle.digits.specs.Buffer.{rowBelow, columnsBelow}
-use Rattle.digits.specs.Limits.{Limits}
+use Rattle.digits.specs.declared.limits.Limits.{Limits}
 use Rattle.digits.specs.Missed.{missed}
 use Rattle.digits.specs.Scalar.{signedScalar, sized}
 use Rattle.digits.specs.Two.{Two, other, of}

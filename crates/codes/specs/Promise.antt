@@ -4,7 +4,7 @@ use mathlib.Core.List.{List}
 use Prim.Native.Nat.{ℕ}
 use lib.ListN.{length}
 use Rattle.digits.specs.Buffer.{rowBelow}
-use Rattle.digits.specs.Limits.{Limits}
+use Rattle.digits.specs.declared.limits.Limits.{Limits}
 use Rattle.digits.specs.Scalar.{signedScalar}
 use Rattle.digits.specs.Two.{Two, P, Q, of}
 use Rattle.recode.specs.Call.{jointAnswer, jointBuffer}

@@ -1,5 +1,5 @@
--- Joint forms place by place, the remainders and their codes; and what the call answers where two of its questions are missed at once. One
--- table, by one computed test.
+-- Joint forms place by place, the remainders and their codes; and what the call answers where two of its questions are missed at once, and at
+-- the limits of the card and of the gateway. One table, by one computed test.
 use mathlib.Core.Path.{_≡_}
 use mathlib.Core.List.{List, [], _∷_, map, List·Memᴰ}
 use Prim.Native.Nat.{ℕ}
@@ -8,7 +8,7 @@ use lib.IntN.{ℤ, pos, negℤ}
 use lib.ListN.{length, replicate}
 use Rattle.digits.specs.Column
 use Rattle.digits.specs.Integer.{half}
-use Rattle.digits.specs.Limits.{card}
+use Rattle.digits.specs.Limits.{card, gateway}
 use Rattle.digits.specs.Row.{value}
 use Rattle.digits.specs.Two.{Two, P, Q}
 use Rattle.forms.specs.Codes.{remainder, code, remainderAt, below, codes}
@@ -52,6 +52,12 @@ samples =
     ∷ answers (codesQuestion card (bytes 1) (bytes 66) 529 529 528 529) 3
     ∷ answers (codesQuestion card (bytes 1) (bytes 66) 529 529 529 528) 3
     ∷ answers (codesQuestion card (bytes 1) (bytes 66) 529 529 529 529) 0
+    -- 67 bytes at the card and at the gateway; there 129 bytes, and 128 by the places of the first row
+    ∷ answers (codesQuestion card (bytes 67) (bytes 67) 1025 1025 1025 1025) 1
+    ∷ answers (codesQuestion gateway (bytes 67) (bytes 67) 1025 1025 1025 1025) 0
+    ∷ answers (codesQuestion gateway (bytes 128) (bytes 129) 1033 1033 1033 1033) 1
+    ∷ answers (codesQuestion gateway (bytes 128) (bytes 1) 1024 1025 1025 1025) 3
+    ∷ answers (codesQuestion gateway (bytes 128) (bytes 1) 1025 1025 1025 1025) 0
     ∷ []
 
 -- the test of a sample

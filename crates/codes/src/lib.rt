@@ -2,4 +2,5 @@
 mod call;
 mod row;
 
+pub use call::gateway_joint_codes;
 pub use call::joint_codes;

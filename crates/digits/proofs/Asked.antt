@@ -8,15 +8,15 @@ use native.Mathlib.Omega.{arith}
 use lib.Dec.{leb}
 use lib.ListN.{length}
 use borrow.Author.Tests.{lt-ltb, le-ltb}
-use Rattle.digits.specs.Limits.{card}
+use Rattle.digits.specs.declared.limits.Limits.{Limits}
 use Rattle.digits.specs.Scalar.{sized}
 
 -- question 1
-pub sized-none : (s : List ℕ) → length s ≡ 0 → false ≡ sized card s
-sized-none s e = rw (le-ltb 0 (length s) (omega arith))
+pub sized-none : (limits : Limits) (s : List ℕ) → length s ≡ 0 → false ≡ sized limits s
+sized-none limits s e = rw (le-ltb 0 (length s) (omega arith))
 
-pub sized-some : (s : List ℕ) (b : Bool) → length s ≢ 0 → b ≡ leb (length s) 66 → b ≡ sized card s
-sized-some s b h e = rw (lt-ltb 0 (length s) (omega arith)) e
+pub sized-some : (limits : Limits) (s : List ℕ) (b : Bool) → length s ≢ 0 → b ≡ leb (length s) (limits .bytes) → b ≡ sized limits s
+sized-some limits s b h e = rw (lt-ltb 0 (length s) (omega arith)) e
 
 -- both of two tests
 pub and-first : (a b : Bool) → a ≡ true → b ≡ (a && b)

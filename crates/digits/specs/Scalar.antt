@@ -11,7 +11,7 @@ use lib.Dec.{ltb, leb}
 use lib.IntN.{ℤ, pos}
 use lib.ListN.{length, getD}
 use Rattle.digits.specs.Integer.{signedBy}
-use Rattle.digits.specs.Limits.{Limits}
+use Rattle.digits.specs.declared.limits.Limits.{Limits}
 
 -- every element is a byte
 abbrev pub Bytes : List ℕ → Type 0
@@ -30,7 +30,7 @@ scalar s = little (reverse s)
 unfoldable pub signedScalar : List ℕ → ℕ → ℤ
 signedScalar s sign = signedBy sign (pos (scalar s))
 
--- question 1: a scalar has 1 to 66 bytes
+-- question 1: a scalar has 1 byte at least, and no more than the limits allow
 abbrev pub sized : Limits → List ℕ → Bool
 sized limits s = ltb 0 (length s) && leb (length s) (limits .bytes)
 

@@ -1,20 +1,17 @@
 ghost use mathlib.Core.Path.{_≡_};
 ghost use mathlib.Core.Bool.{_&&_};
 ghost use Rattle.digits.specs.Integer.{isNegative};
-ghost use Rattle.digits.specs.Limits.{card};
 ghost use Rattle.digits.specs.Scalar.{signedScalar, sized};
+use crate::limits::Limits;
 
-// The most bytes of a scalar.
-const MOST_BYTES: usize = 66;
-
-// Question 1: whether a scalar has 1 to 66 bytes.
-pub fn is_scalar(bytes: &[u8]) -> bool
-    ensures { λ r. ⌜ r ≡ sized card (now (bytes .entry)) ⌝ }
+// Question 1: whether a scalar has at least one byte and no more than the limits allow.
+pub fn is_scalar(limits: Limits, bytes: &[u8]) -> bool
+    ensures { λ r. ⌜ r ≡ sized limits (now (bytes .entry)) ⌝ }
 {
     if bytes.len() == 0 {
         return false;
     }
-    bytes.len() <= MOST_BYTES
+    bytes.len() <= limits.bytes
 }
 
 // Whether a scalar is negative: it has a minus sign, and is not 0.
@@ -28,11 +25,11 @@ pub fn is_negative(bytes: &[u8], sign: u32) -> bool
 }
 
 // Question 1 of both scalars.
-pub fn are_scalars(k: &[u8], l: &[u8]) -> bool
-    ensures { λ r. ⌜ r ≡ (sized card (now (k .entry)) && sized card (now (l .entry))) ⌝ }
+pub fn are_scalars(limits: Limits, k: &[u8], l: &[u8]) -> bool
+    ensures { λ r. ⌜ r ≡ (sized limits (now (k .entry)) && sized limits (now (l .entry))) ⌝ }
 {
-    if is_scalar(k) {
-        return is_scalar(l);
+    if is_scalar(limits, k) {
+        return is_scalar(limits, l);
     }
     false
 }

@@ -5,7 +5,7 @@ use mathlib.Core.List.{List}
 use Prim.Native.Nat.{ℕ}
 use native.Mathlib.Omega.{arith}
 use Rattle.digits.specs.Scalar.{Bytes}
-use Rattle.digits.specs.Limits.{card}
+use Rattle.digits.specs.declared.limits.Limits.{Limits}
 use Rattle.recode.specs.Call as Recoding
 use Rattle.codes.specs.Call.{codesAnswer}
 use Rattle.recode.specs.Call.{rowAnswer, jointAnswer}
@@ -35,7 +35,7 @@ use Rattle.host.specs.Told.{
   sheetsLine,
 }
 use Rattle.host.specs.Told.Lines.{line-within}
-use Rattle.host.specs.Told.Parts.{row-fits, joint-fits, codes-fits, j-fits, i-fits, cheapest-fits}
+use Rattle.host.specs.Told.Parts.{Tellable, row-fits, joint-fits, codes-fits, j-fits, i-fits, cheapest-fits}
 
 -- a row or a joint form
 pub record RecodedParts (r : Recoded) : Type 0 where
@@ -73,32 +73,34 @@ sheet-parts : (s : Sheet) → SheetFits s → SheetParts s
 sheet-parts s h =
     record { number-is = above (Writing.number s) h; length-is = below (Writing.number s) h; additions-are = between (Writing.number s) h }
 
--- a row
-pub row-parts : (s : List ℕ) (sign m places : ℕ) → Bytes s → RecodedParts (rowAnswer card s sign m places)
-row-parts s sign m places h = recoded-parts (rowAnswer card s sign m places) (row-fits s sign m places h)
+-- under the card's limits, and under the gateway's:
+module _ (limits : Limits) (tellable : Tellable limits) where
+  -- a row
+  pub row-parts : (s : List ℕ) (sign m places : ℕ) → Bytes s → RecodedParts (rowAnswer limits s sign m places)
+  row-parts s sign m places h = recoded-parts (rowAnswer limits s sign m places) (row-fits limits tellable s sign m places h)
 
--- a joint form
-pub joint-parts : (k : List ℕ) (k-sign : ℕ) (l : List ℕ) (l-sign : ℕ) (places places′ : ℕ) → Bytes k → Bytes l → RecodedParts (jointAnswer card k k-sign l l-sign places places′)
-joint-parts k k-sign l l-sign places places′ h g = recoded-parts (jointAnswer card k k-sign l l-sign places places′) (joint-fits k k-sign l l-sign places places′ h g)
+  -- a joint form
+  pub joint-parts : (k : List ℕ) (k-sign : ℕ) (l : List ℕ) (l-sign : ℕ) (places places′ : ℕ) → Bytes k → Bytes l → RecodedParts (jointAnswer limits k k-sign l l-sign places places′)
+  joint-parts k k-sign l l-sign places places′ h g = recoded-parts (jointAnswer limits k k-sign l l-sign places places′) (joint-fits limits tellable k k-sign l l-sign places places′ h g)
 
--- with its codes
-pub codes-parts : (k : List ℕ) (k-sign : ℕ) (l : List ℕ) (l-sign : ℕ) (places places′ room room′ : ℕ) → Bytes k → Bytes l → RecodedParts (codesAnswer card k k-sign l l-sign places places′ room room′)
-codes-parts k k-sign l l-sign places places′ room room′ h g =
-    recoded-parts (codesAnswer card k k-sign l l-sign places places′ room room′) (codes-fits k k-sign l l-sign places places′ room room′ h g)
+  -- with its codes
+  pub codes-parts : (k : List ℕ) (k-sign : ℕ) (l : List ℕ) (l-sign : ℕ) (places places′ room room′ : ℕ) → Bytes k → Bytes l → RecodedParts (codesAnswer limits k k-sign l l-sign places places′ room room′)
+  codes-parts k k-sign l l-sign places places′ room room′ h g =
+      recoded-parts (codesAnswer limits k k-sign l l-sign places places′ room room′) (codes-fits limits tellable k k-sign l l-sign places places′ room room′ h g)
 
-module _ (k : List ℕ) (k-sign : ℕ) (l : List ℕ) (l-sign : ℕ) (k-bytes : Bytes k) (l-bytes : Bytes l) where
-  -- the sheet of plan J
-  pub j-parts : (room : ℕ) → SheetParts (jAnswer card k k-sign l l-sign room)
-  j-parts room = sheet-parts (jAnswer card k k-sign l l-sign room) (j-fits k k-sign l l-sign k-bytes l-bytes room)
+  module _ (k : List ℕ) (k-sign : ℕ) (l : List ℕ) (l-sign : ℕ) (k-bytes : Bytes k) (l-bytes : Bytes l) where
+    -- the sheet of plan J
+    pub j-parts : (room : ℕ) → SheetParts (jAnswer limits k k-sign l l-sign room)
+    j-parts room = sheet-parts (jAnswer limits k k-sign l l-sign room) (j-fits limits tellable k k-sign l l-sign k-bytes l-bytes room)
 
-  -- of plan I
-  pub i-parts : (m1 m2 room : ℕ) → SheetParts (iAnswer card k k-sign l l-sign m1 m2 room)
-  i-parts m1 m2 room = sheet-parts (iAnswer card k k-sign l l-sign m1 m2 room) (i-fits k k-sign l l-sign k-bytes l-bytes m1 m2 room)
+    -- of plan I
+    pub i-parts : (m1 m2 room : ℕ) → SheetParts (iAnswer limits k k-sign l l-sign m1 m2 room)
+    i-parts m1 m2 room = sheet-parts (iAnswer limits k k-sign l l-sign m1 m2 room) (i-fits limits tellable k k-sign l l-sign k-bytes l-bytes m1 m2 room)
 
-  -- the cheapest
-  pub cheapest-parts : (limit room : ℕ) → SheetParts (cheapestAnswer card k k-sign l l-sign limit room)
-  cheapest-parts limit room = sheet-parts (cheapestAnswer card k k-sign l l-sign limit room) (cheapest-fits k k-sign l l-sign k-bytes l-bytes limit room)
+    -- the cheapest
+    pub cheapest-parts : (limit room : ℕ) → SheetParts (cheapestAnswer limits k k-sign l l-sign limit room)
+    cheapest-parts limit room = sheet-parts (cheapestAnswer limits k k-sign l l-sign limit room) (cheapest-fits limits tellable k k-sign l l-sign k-bytes l-bytes limit room)
 
--- a sheet that is read
-pub read-parts : (s : List ℕ) → JudgementParts (judgement (answer card s))
-read-parts s = record { number-is = omega (arith, line-within card s); line-is = omega (arith, line-within card s) }
+  -- a sheet that is read
+  pub read-parts : (s : List ℕ) → JudgementParts (judgement (answer limits s))
+  read-parts s = record { number-is = omega (arith, tellable .sheet, line-within limits s); line-is = omega (arith, tellable .sheet, line-within limits s) }

@@ -1,5 +1,6 @@
-// The calls for the card's host program, in C.
+// The calls for host programs in C: the card's, and the gateway's.
 mod calls;
+mod gateway;
 mod told;
 
 pub use calls::sheets_cheapest;
@@ -9,3 +10,10 @@ pub use calls::sheets_plan_i;
 pub use calls::sheets_plan_j;
 pub use calls::sheets_read;
 pub use calls::sheets_row;
+pub use gateway::sheets_gateway_cheapest;
+pub use gateway::sheets_gateway_joint;
+pub use gateway::sheets_gateway_joint_codes;
+pub use gateway::sheets_gateway_plan_i;
+pub use gateway::sheets_gateway_plan_j;
+pub use gateway::sheets_gateway_read;
+pub use gateway::sheets_gateway_row;

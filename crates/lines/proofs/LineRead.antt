@@ -10,7 +10,7 @@ use native.Mathlib.Omega.{arith}
 use lib.Dec.{eqb}
 use lib.ListN.{length, getD, take, drop}
 use borrow.Author.Tests.{eq-eqb, ne-eqb, eqb-true, eqb-false}
-use Rattle.digits.specs.Limits.{card}
+use Rattle.digits.specs.declared.limits.Limits.{Limits}
 use Rattle.sheet.specs.Plan.{Point}
 use Rattle.sheet.specs.Line as spec
 use Rattle.sheet.specs.Line.{header, table, load, double, add, end, misspelled}
@@ -33,16 +33,16 @@ pair-none none e = refl
 pair-none (some x) e = let z : _≡_ {A = ℕ} 0 1 = cc in absurd (omega arith)
 
 -- the line of a letter and the fields
-module _ (c : ℕ) (fs : List (List ℕ)) where
-  behind-S : c ≡ 83 → readBehind card c fs ≡ sized 9 fs (made header (readHeader card fs))
+module _ (limits : Limits) (c : ℕ) (fs : List (List ℕ)) where
+  behind-S : c ≡ 83 → readBehind limits c fs ≡ sized 9 fs (made header (readHeader limits fs))
   unfolding readBehind
   behind-S e = rw e
 
-  behind-D : c ≡ 68 → readBehind card c fs ≡ sized 1 fs double
+  behind-D : c ≡ 68 → readBehind limits c fs ≡ sized 1 fs double
   unfolding readBehind
   behind-D e = rw e
 
-  behind-E : c ≡ 69 → readBehind card c fs ≡ sized 1 fs end
+  behind-E : c ≡ 69 → readBehind limits c fs ≡ sized 1 fs end
   unfolding readBehind
   behind-E e = rw e
 
@@ -57,13 +57,13 @@ module _ (c : ℕ) (fs : List (List ℕ)) where
   step-cases (some p) = refl
 
   module _ (s : c ≢ 83) (d : c ≢ 68) (e : c ≢ 69) where
-    behind-step : length fs ≡ 3 → readBehind card c fs ≡ pointed c (readPoint fs)
+    behind-step : length fs ≡ 3 → readBehind limits c fs ≡ pointed c (readPoint fs)
     unfolding readBehind
     behind-step n =
         rw (ne-eqb c 83 s, ne-eqb c 68 d, ne-eqb c 69 e, eq-eqb (length fs) 3 n)
         (step-cases (readPoint fs))
 
-    behind-lost : length fs ≢ 3 → misspelled ≡ readBehind card c fs
+    behind-lost : length fs ≢ 3 → misspelled ≡ readBehind limits c fs
     unfolding readBehind
     behind-lost n =
         rw (ne-eqb c 83 s, ne-eqb c 68 d, ne-eqb c 69 e, ne-eqb (length fs) 3 n)
@@ -73,8 +73,8 @@ sized-wrong : (n : ℕ) (fs : List (List ℕ)) (l : spec.Line) → length fs ≢
 sized-wrong n fs l e = rw (ne-eqb (length fs) n e)
 
 -- a header line, well spelled or not
-coded-S : (c : ℕ) (fs : List (List ℕ)) → c ≡ 83 → coded (readBehind card c fs) ≡ Other
-coded-S c fs e = ap coded (behind-S c fs e) ∙ go (eqb (length fs) 9) (readHeader card fs)
+coded-S : (limits : Limits) (c : ℕ) (fs : List (List ℕ)) → c ≡ 83 → coded (readBehind limits c fs) ≡ Other
+coded-S limits c fs e = ap coded (behind-S limits c fs e) ∙ go (eqb (length fs) 9) (readHeader limits fs)
   where
     go : (b : Bool) (o : Option spec.Header) → coded (cond b (made header o) misspelled) ≡ Other
     go true none = refl
@@ -94,78 +94,78 @@ stepped-lost c fs x y z = go (eqb (length fs) 2)
     go false = refl
 
 -- the line of a letter and the fields of s behind it
-pub behind-more : (c : ℕ) (f s : List ℕ) → c ≢ 83 → stepped c (cut comma s) ≡ readBehind card c (f ∷ cut comma s)
+pub behind-more : (limits : Limits) (c : ℕ) (f s : List ℕ) → c ≢ 83 → stepped c (cut comma s) ≡ readBehind limits c (f ∷ cut comma s)
 unfolding readPoint
-behind-more c f s n = go-D (eqb c 68) refl
+behind-more limits c f s n = go-D (eqb c 68) refl
   where
     some-field : (length (f ∷ cut comma s) ≡ 1) → ⊥
     some-field e = let (g, gs, i) = cut-some comma s in absurd (omega (arith, e, ap length i))
 
-    go-3 : c ≢ 68 → c ≢ 69 → (b : Bool) → eqb (length (cut comma s)) 2 ≡ b → stepped c (cut comma s) ≡ readBehind card c (f ∷ cut comma s)
+    go-3 : c ≢ 68 → c ≢ 69 → (b : Bool) → eqb (length (cut comma s)) 2 ≡ b → stepped c (cut comma s) ≡ readBehind limits c (f ∷ cut comma s)
     go-3 d e true i =
         let two : length (cut comma s) ≡ 2 = eqb-true (length (cut comma s)) 2 i in
-        rw i (sym (behind-step c (f ∷ cut comma s) n d e (omega (arith, two))))
+        rw i (sym (behind-step limits c (f ∷ cut comma s) n d e (omega (arith, two))))
     go-3 d e false i =
         let other : length (cut comma s) ≢ 2 = eqb-false (length (cut comma s)) 2 i in
-        rw i (behind-lost c (f ∷ cut comma s) n d e (λ k. other (omega (arith, k))))
+        rw i (behind-lost limits c (f ∷ cut comma s) n d e (λ k. other (omega (arith, k))))
 
-    go-E : c ≢ 68 → (b : Bool) → eqb c 69 ≡ b → stepped c (cut comma s) ≡ readBehind card c (f ∷ cut comma s)
+    go-E : c ≢ 68 → (b : Bool) → eqb c 69 ≡ b → stepped c (cut comma s) ≡ readBehind limits c (f ∷ cut comma s)
     go-E d true i =
         let e : c ≡ 69 = eqb-true c 69 i in
         sym (stepped-lost c (cut comma s) (λ k. absurd (omega arith)) (λ k. absurd (omega arith)) (λ k. absurd (omega arith)))
         ∙ sized-wrong 1 (f ∷ cut comma s) end some-field
-        ∙ sym (behind-E c (f ∷ cut comma s) e)
+        ∙ sym (behind-E limits c (f ∷ cut comma s) e)
     go-E d false i = go-3 d (eqb-false c 69 i) (eqb (length (cut comma s)) 2) refl
 
-    go-D : (b : Bool) → eqb c 68 ≡ b → stepped c (cut comma s) ≡ readBehind card c (f ∷ cut comma s)
+    go-D : (b : Bool) → eqb c 68 ≡ b → stepped c (cut comma s) ≡ readBehind limits c (f ∷ cut comma s)
     go-D true i =
         let d : c ≡ 68 = eqb-true c 68 i in
         sym (stepped-lost c (cut comma s) (λ k. absurd (omega arith)) (λ k. absurd (omega arith)) (λ k. absurd (omega arith)))
         ∙ sized-wrong 1 (f ∷ cut comma s) double some-field
-        ∙ sym (behind-D c (f ∷ cut comma s) d)
+        ∙ sym (behind-D limits c (f ∷ cut comma s) d)
     go-D false i = go-E (eqb-false c 68 i) (eqb c 69) refl
 
-line-behind : (s : List ℕ) (c : ℕ) → c ≡ letter (getD (cut comma s) 0 []) → readBehind card c (cut comma s) ≡ readLine card s
+line-behind : (limits : Limits) (s : List ℕ) (c : ℕ) → c ≡ letter (getD (cut comma s) 0 []) → readBehind limits c (cut comma s) ≡ readLine limits s
 unfolding readLine
-line-behind s c e = rw (← e)
+line-behind limits s c e = rw (← e)
 
 -- the line of s, whose first field ends at n
-module _ (s : List ℕ) (n c : ℕ) (f : First comma s n) (e : c ≡ letter (take n s)) where
-  line-first : readBehind card c (cut comma s) ≡ readLine card s
-  line-first = line-behind s c (e ∙ ap letter (first-zero f))
+module _ (limits : Limits) (s : List ℕ) (n c : ℕ) (f : First comma s n) (e : c ≡ letter (take n s)) where
+  line-first : readBehind limits c (cut comma s) ≡ readLine limits s
+  line-first = line-behind limits s c (e ∙ ap letter (first-zero f))
 
-  line-alone : length s ≤ n → readBehind card c (s ∷ []) ≡ readLine card s
-  line-alone h = ap (readBehind card c) (sym (first-last f h)) ∙ line-first
+  line-alone : length s ≤ n → readBehind limits c (s ∷ []) ≡ readLine limits s
+  line-alone h = ap (readBehind limits c) (sym (first-last f h)) ∙ line-first
 
-  line-more : n < length s → c ≢ 83 → stepped c (cut comma (drop (n + 1) s)) ≡ readLine card s
-  line-more h k = rw add-one (behind-more c (take n s) (drop (suc n) s) k) ∙ ap (readBehind card c) (sym (first-part f h)) ∙ line-first
+  line-more : n < length s → c ≢ 83 → stepped c (cut comma (drop (n + 1) s)) ≡ readLine limits s
+  line-more h k = rw add-one (behind-more limits c (take n s) (drop (suc n) s) k) ∙ ap (readBehind limits c) (sym (first-part f h)) ∙ line-first
 
-  line-headed : c ≡ 83 → coded (readLine card s) ≡ Other
-  line-headed k = ap coded (sym line-first) ∙ coded-S c (cut comma s) k
+  line-headed : c ≡ 83 → coded (readLine limits s) ≡ Other
+  line-headed k = ap coded (sym line-first) ∙ coded-S limits c (cut comma s) k
 
   -- the line by its letter
-  pub coded-more : n < length s → coded (stepped c (cut comma (drop (n + 1) s))) ≡ coded (readLine card s)
+  pub coded-more : n < length s → coded (stepped c (cut comma (drop (n + 1) s))) ≡ coded (readLine limits s)
   coded-more h = go (eqb c 83) refl
     where
-      go : (b : Bool) → eqb c 83 ≡ b → coded (stepped c (cut comma (drop (n + 1) s))) ≡ coded (readLine card s)
+      go : (b : Bool) → eqb c 83 ≡ b → coded (stepped c (cut comma (drop (n + 1) s))) ≡ coded (readLine limits s)
       go true i =
           let k : c ≡ 83 = eqb-true c 83 i in
           ap coded (sym (stepped-lost c (cut comma (drop (n + 1) s)) (λ e. absurd (omega arith)) (λ e. absurd (omega arith)) (λ e. absurd (omega arith)))) ∙ sym (line-headed k)
       go false i = ap coded (line-more h (eqb-false c 83 i))
 
   module _ (h : length s ≤ n) where
-    pub coded-D : c ≡ 68 → Double ≡ coded (readLine card s)
-    coded-D d = ap coded (sym (behind-D c (s ∷ []) d) ∙ line-alone h)
+    pub coded-D : c ≡ 68 → Double ≡ coded (readLine limits s)
+    coded-D d = ap coded (sym (behind-D limits c (s ∷ []) d) ∙ line-alone h)
 
-    pub coded-E : c ≡ 69 → End ≡ coded (readLine card s)
-    coded-E e = ap coded (sym (behind-E c (s ∷ []) e) ∙ line-alone h)
+    pub coded-E : c ≡ 69 → End ≡ coded (readLine limits s)
+    coded-E e = ap coded (sym (behind-E limits c (s ∷ []) e) ∙ line-alone h)
 
-    pub coded-other : c ≢ 68 → c ≢ 69 → Other ≡ coded (readLine card s)
+    pub coded-other : c ≢ 68 → c ≢ 69 → Other ≡ coded (readLine limits s)
     coded-other d e = go (eqb c 83) refl
       where
-        go : (b : Bool) → eqb c 83 ≡ b → Other ≡ coded (readLine card s)
+        go : (b : Bool) → eqb c 83 ≡ b → Other ≡ coded (readLine limits s)
         go true i = sym (line-headed (eqb-true c 83 i))
-        go false i = ap coded (behind-lost c (s ∷ []) (eqb-false c 83 i) d e (λ k. absurd (omega arith)) ∙ line-alone h)
+        go false i = ap coded (behind-lost limits c (s ∷ []) (eqb-false c 83 i) d e (λ k. absurd (omega arith)) ∙ line-alone h)
 
 -- the two fields of s, of which the first ends at n
 module _ (s : List ℕ) (n c : ℕ) (f : First comma s n) where

@@ -12,7 +12,7 @@ use lib.IntN.{pos, negsuc}
 use lib.ListN.{length, getD, drop}
 use lib.Seq.{drop-cons}
 use borrow.Author.Tests.{eqb-true, ltb-true}
-use Rattle.digits.specs.Limits.{card}
+use Rattle.digits.specs.declared.limits.Limits.{Limits}
 use Rattle.sheet.specs.Plan.{Point, point}
 use Rattle.sheet.specs.Spelling.{lineFeed, comma, digit, fields, join}
 use Rattle.sheet.specs.Spelling.Spelled.{Short, ShortPoint}
@@ -101,14 +101,14 @@ module _ (s : List ℕ) (at from first second size end : ℕ) (h : at + 3 ≤ le
 
 -- the lines that have a point, by their letters
 letters : (c : ℕ) (t : Point) → ((eqb c 84 || eqb c 76) || eqb c 65) ≡ true → ShortPoint t
-    → (fields (pointed c (some t)) ≡ (c ∷ []) ∷ digit (t .p) ∷ digit (t .q) ∷ []) × Short card (pointed c (some t))
+    → (fields (pointed c (some t)) ≡ (c ∷ []) ∷ digit (t .p) ∷ digit (t .q) ∷ []) × ((limits : Limits) → Short limits (pointed c (some t)))
 letters c t k s = go (eqb c 84) (eqb c 76) (eqb c 65) refl refl refl k
   where
     go : (x y z : Bool) → eqb c 84 ≡ x → eqb c 76 ≡ y → eqb c 65 ≡ z → ((x || y) || z) ≡ true
-        → (fields (pointed c (some t)) ≡ (c ∷ []) ∷ digit (t .p) ∷ digit (t .q) ∷ []) × Short card (pointed c (some t))
-    go true y z e f g k = rw (eqb-true c 84 e) (refl, s)
-    go false true z e f g k = rw (eqb-true c 76 f) (refl, s)
-    go false false true e f g k = rw (eqb-true c 65 g) (refl, s)
+        → (fields (pointed c (some t)) ≡ (c ∷ []) ∷ digit (t .p) ∷ digit (t .q) ∷ []) × ((limits : Limits) → Short limits (pointed c (some t)))
+    go true y z e f g k = rw (eqb-true c 84 e) (refl, λ limits. s)
+    go false true z e f g k = rw (eqb-true c 76 f) (refl, λ limits. s)
+    go false false true e f g k = rw (eqb-true c 65 g) (refl, λ limits. s)
     go false false false e f g k = let z : _≡_ {A = ℕ} 0 1 = cc in absurd (omega arith)
 
 -- three fields and what stands behind their line

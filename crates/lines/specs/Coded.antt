@@ -8,7 +8,7 @@ use Prim.Native.Char.{code}
 use lib.Dec.{eqb}
 use lib.IntN.{ℤ, pos, negsuc, negℤ}
 use lib.ListN.{length, getD, drop}
-use Rattle.digits.specs.Limits.{card}
+use Rattle.digits.specs.declared.limits.Limits.{Limits}
 use Rattle.sheet.specs.Plan.{Point, point}
 use Rattle.sheet.specs.Line as spec
 use Rattle.sheet.specs.Line.{Kind, joint, interleaved, header, table, load, double, add, end, misspelled}
@@ -115,10 +115,10 @@ pub record Doubles (s : List ℕ) : Type 0 where
   pub end : getD s 1 0 ≡ code "\n"
 
 -- of the sheet s, the line at a place, and where the next one begins
-pub record Took (s : List ℕ) (at : ℕ) (line : Line) (next : ℕ) : Type 0 where
+pub record Took (limits : Limits) (s : List ℕ) (at : ℕ) (line : Line) (next : ℕ) : Type 0 where
   pub meant : spec.Line
   pub is : line ≡ coded meant
-  pub rest : lines card (drop at s) ≡ meant ∷ lines card (drop next s)
+  pub rest : lines limits (drop at s) ≡ meant ∷ lines limits (drop next s)
   pub later : at < next
   pub within : next ≤ length s
 
@@ -143,21 +143,21 @@ openingOf [] = none
 openingOf (x ∷ ls) = headingOf x
 
 -- the sheet s begins with a header, behind which the next line begins
-pub record Opened (s : List ℕ) (head : header-of.Header) (next : ℕ) : Type 0 where
+pub record Opened (limits : Limits) (s : List ℕ) (head : header-of.Header) (next : ℕ) : Type 0 where
   pub h : spec.Header
   pub is : head ≡ codedHeader h
-  pub rest : lines card s ≡ header h ∷ lines card (drop next s)
+  pub rest : lines limits s ≡ header h ∷ lines limits (drop next s)
   pub later : 0 < next
   pub within : next ≤ length s
 
 -- it does, or it begins with none
-abbrev pub Opens : List ℕ → Opening → Type 0
-Opens s (opening.the-variants.Is head next) = Opened s head next
-Opens s opening.the-variants.None = openingOf (lines card s) ≡ none
+abbrev pub Opens : Limits → List ℕ → Opening → Type 0
+Opens limits s (opening.the-variants.Is head next) = Opened limits s head next
+Opens limits s opening.the-variants.None = openingOf (lines limits s) ≡ none
 
--- a field of the first line of the sheet s, and that it is a scalar
+-- a field of the first line of the sheet s, and that it is a scalar of as many figures as the limits allow
 abbrev pub headField : List ℕ → ℕ → List ℕ
 headField s k = getD (cut comma (getD (cut lineFeed s) 0 [])) k []
 
-abbrev pub ScalarIn : List ℕ → ℕ → Type 0
-ScalarIn s k = isWhole 16 (card .figures) (headField s k) ≡ true
+abbrev pub ScalarIn : Limits → List ℕ → ℕ → Type 0
+ScalarIn limits s k = isWhole 16 (limits .figures) (headField s k) ≡ true

@@ -6,7 +6,7 @@ use mathlib.Core.Option.{some}
 use Prim.Native.Nat.{ℕ, _+_, _≤_, _<_}
 use lib.IntN.{ℤ, natAbs}
 use lib.ListN.{length, drop}
-use Rattle.digits.specs.Limits.{card}
+use Rattle.digits.specs.declared.limits.Limits.{Limits}
 use Rattle.sheet.specs.Plan as meant
 use Rattle.sheet.specs.Spelling.{lineFeed, comma, digit, fields, join}
 use Rattle.sheet.specs.Spelling.Spelled.{Short}
@@ -32,7 +32,7 @@ pub record DigitAt (s : List ℕ) (at : ℕ) (r : Spelled) : Type 0 where
 pub record Begins (s : List ℕ) (letter : ℕ) (t : Point) (end : ℕ) : Type 0 where
   pub point : meant.Point
   pub is : t ≡ codedPoint point
-  pub short : Short card (pointed letter (some point))
+  pub short : (limits : Limits) → Short limits (pointed letter (some point))
   pub bytes : s ≡ join comma (fields (pointed letter (some point))) ++ lineFeed ∷ drop end s
   pub later : 0 < end
   pub within : end ≤ length s

@@ -2,10 +2,10 @@ ghost use mathlib.Core.Path.{_≡_};
 ghost use mathlib.Core.List.{[]};
 ghost use mathlib.Core.Option.{some};
 ghost use lib.ListN.{getD};
-ghost use Rattle.digits.specs.Limits.{card};
 ghost use Rattle.sheet.specs.Spelling.{comma, cut, readKind, readHeader, readLine};
 ghost use Rattle.lines.specs.Coded.{kindOf, codedHeading, headingOf, headField, Opens};
 use crate::line::LINE_FEED;
+use digits::Limits;
 use sheet::figures::Decimal;
 
 // S,kind,m1,m2,slots,additions,doublings,k,l without k and l, which stay on the sheet.
@@ -31,9 +31,9 @@ pub enum Opening {
 }
 
 // The header of the fields behind its kind.
-fn header_of(s: &[u8], joint: bool) -> Heading
+fn header_of(limits: Limits, s: &[u8], joint: bool) -> Heading
     requires { ⌜ readKind (getD (cut comma (now s)) 1 []) ≡ some (kindOf joint) ⌝ }
-    ensures { λ r. ⌜ r ≡ codedHeading (readHeader card (cut comma (now (s .entry)))) ⌝ }
+    ensures { λ r. ⌜ r ≡ codedHeading (readHeader limits (cut comma (now (s .entry)))) ⌝ }
 {
     let first = sheet::fields::decimal_at(s, 2);
     let Decimal::Is(m1) = first else {
@@ -55,8 +55,8 @@ fn header_of(s: &[u8], joint: bool) -> Heading
     let Decimal::Is(doublings) = fifth else {
         return Heading::None;
     };
-    if sheet::fields::is_scalar_at(s, 7) {
-        if sheet::fields::is_scalar_at(s, 8) {
+    if sheet::fields::is_scalar_at(limits, s, 7) {
+        if sheet::fields::is_scalar_at(limits, s, 8) {
             return Heading::Is(Header {
                 joint: joint,
                 m1: m1,
@@ -72,44 +72,45 @@ fn header_of(s: &[u8], joint: bool) -> Heading
 }
 
 // The header of the fields behind its letter.
-fn heading_of(s: &[u8]) -> Heading
-    ensures { λ r. ⌜ r ≡ codedHeading (readHeader card (cut comma (now (s .entry)))) ⌝ }
+fn heading_of(limits: Limits, s: &[u8]) -> Heading
+    ensures { λ r. ⌜ r ≡ codedHeading (readHeader limits (cut comma (now (s .entry)))) ⌝ }
 {
     let kind = sheet::fields::letter_of(sheet::fields::field(s, 1));
     if kind == b'J' {
-        return header_of(s, true);
+        return header_of(limits, s, true);
     }
     if kind == b'I' {
-        return header_of(s, false);
+        return header_of(limits, s, false);
     }
     Heading::None
 }
 
 // The header that a line spells, without its line feed.
-fn heading_in(line: &[u8]) -> Heading
-    ensures { λ r. ⌜ r ≡ codedHeading (headingOf (readLine card (now (line .entry)))) ⌝ }
+fn heading_in(limits: Limits, line: &[u8]) -> Heading
+    ensures { λ r. ⌜ r ≡ codedHeading (headingOf (readLine limits (now (line .entry)))) ⌝ }
 {
     let letter = sheet::fields::letter_of(sheet::fields::field(line, 0));
     if letter == b'S' {
         if sheet::fields::count(line) == 9 {
-            return heading_of(line);
+            return heading_of(limits, line);
         }
         return Heading::None;
     }
     Heading::None
 }
 
-// The header that a sheet begins with.
-pub fn opening_of(sheet: &[u8]) -> Opening
-    ensures { λ r. ⌜ Opens (now (sheet .entry)) r ⌝ }
+// The header that a sheet begins with, by the limits.
+pub fn opening_of(limits: Limits, sheet: &[u8]) -> Opening
+    ensures { λ r. ⌜ Opens limits (now (sheet .entry)) r ⌝ }
 {
     let end = sheet::fields::find(sheet, LINE_FEED);
     if end < sheet.len() {
-        let heading = heading_in(&sheet[..end]);
+        let heading = heading_in(limits, &sheet[..end]);
         let Heading::Is(header) = heading else {
             return Opening::None;
         };
-        return Opening::Is(header, end + 1);
+        let next = end + 1;
+        return Opening::Is(header, next);
     }
     Opening::None
 }

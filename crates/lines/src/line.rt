@@ -3,7 +3,7 @@ ghost use mathlib.Core.Bool.{true};
 ghost use mathlib.Core.Option.{Option};
 ghost use Prim.Native.Nat.{_<_, _≤_};
 ghost use lib.ListN.{length};
-ghost use Rattle.digits.specs.Limits.{card};
+ghost use Rattle.digits.specs.declared.limits.Limits.{Limits};
 ghost use Rattle.sheet.specs.Plan as meant;
 ghost use Rattle.sheet.specs.Spelling.{comma, cut, readLine};
 ghost use Rattle.lines.specs.Coded.{codedPair, coded, pointed, stepped, Doubles, Took, Past};
@@ -33,7 +33,7 @@ pub struct Taken {
 
 // The line of its bytes, without the line feed.
 pub fn line_of(s: &[u8]) -> Line
-    ensures { λ r. ⌜ r ≡ coded (readLine card (now (s .entry))) ⌝ }
+    ensures { λ r. ⌜ ((limits : Limits) → r ≡ coded (readLine limits (now (s .entry)))) ⌝ }
 {
     let end = sheet::fields::find(s, COMMA);
     let letter = sheet::fields::letter_of(&s[..end]);
@@ -100,7 +100,7 @@ fn is_double(s: &[u8]) -> bool
 
 // The line that begins at a place of the sheet; past the end, no line that can stand there.
 pub fn line_at(sheet: &[u8], at: usize) -> Taken
-    ensures { λ r. ⌜ (at < length (now (sheet .entry)) → Took (now (sheet .entry)) at (r .line) (r .next)) × (length (now (sheet .entry)) ≤ at → Past (now (sheet .entry)) (r .line) (r .next)) ⌝ }
+    ensures { λ r. ⌜ (at < length (now (sheet .entry)) → (limits : Limits) → 1 ≤ limits .figures → Took limits (now (sheet .entry)) at (r .line) (r .next)) × (length (now (sheet .entry)) ≤ at → Past (now (sheet .entry)) (r .line) (r .next)) ⌝ }
 {
     if sheet.len() <= at {
         return Taken {

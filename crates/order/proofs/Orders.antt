@@ -11,6 +11,7 @@ use lib.ListN.{length, getD}
 use mathlib.Core.Logic.{_≢_}
 use borrow.Author.Tests.{eq-eqb, ne-eqb}
 use Rattle.digits.specs.Integer.{signedBy}
+use Rattle.digits.specs.declared.limits.Limits.{Limits}
 use Rattle.digits.specs.Limits.{card}
 use Rattle.digits.specs.Scalar.{scalar, signedScalar}
 use Rattle.sheet.specs.declared.figures.Decimal.the-variants.{Is, None}
@@ -34,55 +35,55 @@ scalar-whole s t f sign e g h =
 abbrev ordered : Option ℤ → Option ℤ → Option ℕ → Bool → Option Order
 ordered a b c three = a >>= λ k. b >>= λ l. c >>= λ slots. cond three (some (record { k = k; l = l; slots = slots })) none
 
-module _ (fs : List (List ℕ)) where
+-- the scalar of field i
+abbrev pub value : List (List ℕ) → ℕ → ℤ
+value fs i = wholeOf 16 (getD fs i [])
+
+module _ (limits : Limits) (fs : List (List ℕ)) where
   -- field i spells a scalar
   abbrev pub spelled : ℕ → Bool
-  spelled i = isWhole 16 (card .figures) (getD fs i [])
-
-  -- the scalar
-  abbrev pub value : ℕ → ℤ
-  value i = wholeOf 16 (getD fs i [])
+  spelled i = isWhole 16 (limits .figures) (getD fs i [])
 
   read-as : {a b three : Bool} → spelled 0 ≡ a → spelled 1 ≡ b → eqb (length fs) 3 ≡ three
-      → readFields card fs ≡ ordered (cond a (some (value 0)) none) (cond b (some (value 1)) none) (readDecimal (getD fs 2 [])) three
+      → readFields limits fs ≡ ordered (cond a (some (value fs 0)) none) (cond b (some (value fs 1)) none) (readDecimal (getD fs 2 [])) three
   unfolding readFields
   read-as {a} {b} d e f = rw (scalar-value 0, scalar-value 1, d, e, f)
     where
-      scalar-value : (i : ℕ) → readScalar card (getD fs i []) ≡ cond (spelled i) (some (value i)) none
-      scalar-value i = whole-value 16 132 (omega arith) (omega arith) (getD fs i [])
+      scalar-value : (i : ℕ) → readScalar limits (getD fs i []) ≡ cond (spelled i) (some (value fs i)) none
+      scalar-value i = whole-value 16 (limits .figures) (omega arith) (omega arith) (getD fs i [])
 
   -- the slots, by the tests
-  pub first-bad : spelled 0 ≡ false → None ≡ decimalOf (slotsOf (readFields card fs))
+  pub first-bad : spelled 0 ≡ false → None ≡ decimalOf (slotsOf (readFields limits fs))
   first-bad d = ap (λ (o : Option Order). decimalOf (slotsOf o)) (sym (read-as d refl refl))
 
-  pub second-bad : spelled 0 ≡ true → spelled 1 ≡ false → None ≡ decimalOf (slotsOf (readFields card fs))
+  pub second-bad : spelled 0 ≡ true → spelled 1 ≡ false → None ≡ decimalOf (slotsOf (readFields limits fs))
   second-bad d e = ap (λ (o : Option Order). decimalOf (slotsOf o)) (sym (read-as d e refl))
 
   module _ (d : spelled 0 ≡ true) (e : spelled 1 ≡ true) where
-    pub not-three : length fs ≢ 3 → None ≡ decimalOf (slotsOf (readFields card fs))
+    pub not-three : length fs ≢ 3 → None ≡ decimalOf (slotsOf (readFields limits fs))
     not-three n = go (readDecimal (getD fs 2 [])) ∙ ap (λ (o : Option Order). decimalOf (slotsOf o)) (sym (read-as d e (ne-eqb (length fs) 3 n)))
       where
-        go : (c : Option ℕ) → None ≡ decimalOf (slotsOf (ordered (some (value 0)) (some (value 1)) c false))
+        go : (c : Option ℕ) → None ≡ decimalOf (slotsOf (ordered (some (value fs 0)) (some (value fs 1)) c false))
         go none = refl
         go (some n) = refl
 
-    pub three : length fs ≡ 3 → decimalOf (readDecimal (getD fs 2 [])) ≡ decimalOf (slotsOf (readFields card fs))
+    pub three : length fs ≡ 3 → decimalOf (readDecimal (getD fs 2 [])) ≡ decimalOf (slotsOf (readFields limits fs))
     three n = go (readDecimal (getD fs 2 [])) ∙ ap (λ (o : Option Order). decimalOf (slotsOf o)) (sym (read-as d e (eq-eqb (length fs) 3 n)))
       where
-        go : (c : Option ℕ) → decimalOf c ≡ decimalOf (slotsOf (ordered (some (value 0)) (some (value 1)) c true))
+        go : (c : Option ℕ) → decimalOf c ≡ decimalOf (slotsOf (ordered (some (value fs 0)) (some (value fs 1)) c true))
         go none = refl
         go (some n) = refl
 
 -- an order with slots has two scalars
 pub record Ordered (fs : List (List ℕ)) (slots : ℕ) : Type 0 where
-  pub first : spelled fs 0 ≡ true
-  pub second : spelled fs 1 ≡ true
+  pub first : spelled card fs 0 ≡ true
+  pub second : spelled card fs 1 ≡ true
   pub read : readFields card fs ≡ some (record { k = value fs 0; l = value fs 1; slots = slots })
 
 pub some-order : (fs : List (List ℕ)) (n : ℕ) → decimalOf (slotsOf (readFields card fs)) ≡ Is n → Ordered fs n
-some-order fs n e = go (spelled fs 0) (spelled fs 1) (eqb (length fs) 3) (readDecimal (getD fs 2 [])) refl refl (read-as fs refl refl refl)
+some-order fs n e = go (spelled card fs 0) (spelled card fs 1) (eqb (length fs) 3) (readDecimal (getD fs 2 [])) refl refl (read-as card fs refl refl refl)
   where
-    go : (a b three : Bool) (c : Option ℕ) → spelled fs 0 ≡ a → spelled fs 1 ≡ b
+    go : (a b three : Bool) (c : Option ℕ) → spelled card fs 0 ≡ a → spelled card fs 1 ≡ b
         → readFields card fs ≡ ordered (cond a (some (value fs 0)) none) (cond b (some (value fs 1)) none) c three → Ordered fs n
     go true true true (some m) p q r =
         let same : m ≡ n = cc in

@@ -10,7 +10,8 @@ use Prim.Native.Nat.{ℕ}
 use lib.Dec.{eqb}
 use lib.IntN.{ℤ}
 use lib.ListN.{length, getD, take, drop}
-use Rattle.digits.specs.Limits.{Limits, card}
+use Rattle.digits.specs.declared.limits.Limits.{Limits}
+use Rattle.digits.specs.Limits.{card}
 use Rattle.sheet.specs.Ascii.{ascii}
 use Rattle.sheet.specs.Plan.{isLimit}
 use Rattle.sheet.specs.Spelling.{comma, cut, decimal, lineFeed, readDecimal, readScalar, _>>=_}
@@ -81,7 +82,7 @@ pub record Printed (s text : List ℕ) : Type 0 where
   -- it is N,4 exactly where they are one whose limit is beyond 31
   pub beyond : (text ≡ refusal 4) ↔ ((o : Order) × (readOrder card s ≡ some o) × (isLimit (o .slots) ≡ false))
   -- and otherwise it is the sheet that demand 3 asks for
-  pub sheet : (o : Order) → readOrder card s ≡ some o → isLimit (o .slots) ≡ true → (a : ℕ) × Cheapest text (o .k) (o .l) (o .slots) a
+  pub sheet : (o : Order) → readOrder card s ≡ some o → isLimit (o .slots) ≡ true → (a : ℕ) × Cheapest card text (o .k) (o .l) (o .slots) a
 
 -- what is printed into a buffer: the text from byte 0 on, behind it what was lent; r is its length
 pub record Prints (text buffer : List ℕ) (r : ℕ) (out : List ℕ) : Type 0 where

@@ -8,7 +8,7 @@ use lib.IntN.{ℤ, pos, negℤ}
 use lib.ListN.{getD, replicate}
 use Rattle.digits.specs.Column
 use Rattle.digits.specs.Column.{weight}
-use Rattle.digits.specs.Limits.{card}
+use Rattle.digits.specs.Limits.{card, gateway}
 use Rattle.digits.specs.Scalar.{little, scalar, signedScalar}
 use Rattle.digits.specs.Two.{P, Q, two, paired}
 use Rattle.forms.specs.Row
@@ -112,6 +112,9 @@ samples =
     ∷ answers (rowQuestion card (bytes 66) 4 0) 2
     ∷ answers (rowQuestion card (bytes 66) 31 528) 3
     ∷ answers (rowQuestion card (bytes 66) 31 529) 0
+    ∷ answers (rowQuestion gateway (bytes 129) 4 0) 1
+    ∷ answers (rowQuestion gateway (bytes 128) 31 1024) 3
+    ∷ answers (rowQuestion gateway (bytes 128) 31 1025) 0
     -- a joint form: 1 of the second scalar and 3 missed, 3 of the second row by the longer scalar, none
     ∷ answers (jointQuestion card (bytes 66) (bytes 0) 0 0) 1
     ∷ answers (jointQuestion card (bytes 1) (bytes 66) 529 528) 3
@@ -120,6 +123,8 @@ samples =
     ∷ answers (jQuestion card (bytes 1) (bytes 67) 0) 1
     ∷ answers (jQuestion card (bytes 1) (bytes 66) 16383) 3
     ∷ answers (jQuestion card (bytes 1) (bytes 66) 16384) 0
+    ∷ answers (jQuestion gateway (bytes 1) (bytes 67) 32767) 3
+    ∷ answers (jQuestion gateway (bytes 1) (bytes 67) 32768) 0
     ∷ answers (iQuestion card (bytes 1) (bytes 0) 0 1 0) 1
     ∷ answers (iQuestion card (bytes 1) (bytes 1) 1 33 0) 2
     ∷ answers (iQuestion card (bytes 1) (bytes 1) 31 31 16383) 3
@@ -129,6 +134,9 @@ samples =
     ∷ answers (cheapestQuestion card (bytes 1) (bytes 1) 32 0) 4
     ∷ answers (cheapestQuestion card (bytes 1) (bytes 1) 31 16383) 3
     ∷ answers (cheapestQuestion card (bytes 1) (bytes 1) 31 16384) 0
+    ∷ answers (cheapestQuestion gateway (bytes 129) (bytes 1) 32 0) 1
+    ∷ answers (cheapestQuestion gateway (bytes 128) (bytes 1) 31 32767) 3
+    ∷ answers (cheapestQuestion gateway (bytes 128) (bytes 1) 31 32768) 0
     -- its plan: 1 of the second scalar and 4 missed, 4 alone, none
     ∷ answers (choiceQuestion card (bytes 1) (bytes 67) 32) 1
     ∷ answers (choiceQuestion card (bytes 1) (bytes 1) 32) 4

@@ -5,11 +5,9 @@ ghost use lib.ListN.{length};
 ghost use Rattle.digits.specs.Limits.{card};
 ghost use Rattle.sheet.specs.Spelling.Field.{isWhole, wholeOf};
 ghost use Rattle.order.specs.Order.{Prints, refusal, served, orderLength, orderBuffer, OrderPromised};
+use digits::Limits;
 use sheet::figures::Decimal;
 use writer::Sheet;
-
-// The bytes of a sheet buffer.
-const SHEET: usize = 16384;
 
 // Writes N,number for a number of one figure.
 fn refuse(number: u8, out: &mut [u8]) -> usize
@@ -57,11 +55,12 @@ pub fn order(line: &[u8], out: &mut [u8]) -> usize
     ensures buffer { λ _. ⌜ now (out .exit) ≡ orderBuffer card (now (line .entry)) (now (out .entry)) ⌝ }
     ensures promised { λ r. ⌜ OrderPromised (now (line .entry)) (length (now (out .entry))) r (now (out .exit)) ⌝ }
 {
-    if out.len() < SHEET {
+    let limits = Limits::card();
+    if out.len() < limits.sheet {
         return 0;
     }
     let fields = crate::line::line_of(line);
-    match crate::line::slots_of(fields) {
+    match crate::line::slots_of(limits, fields) {
         Decimal::Is(slots) => serve(
             sheet::fields::field(fields, 0),
             sheet::fields::field(fields, 1),

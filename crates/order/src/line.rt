@@ -1,8 +1,8 @@
 ghost use mathlib.Core.Path.{_≡_};
-ghost use Rattle.digits.specs.Limits.{card};
 ghost use Rattle.sheet.specs.Spelling.Field.{decimalOf};
 ghost use Rattle.sheet.specs.Spelling.{comma, cut};
 ghost use Rattle.order.specs.Order.{lineOf, readFields, slotsOf};
+use digits::Limits;
 use sheet::figures::Decimal;
 
 const LINE_FEED: u8 = b'\n';
@@ -18,12 +18,12 @@ pub fn line_of(order: &[u8]) -> &[u8]
     &order[..0]
 }
 
-// The slots of a line that is spelled k,l,slots.
-pub fn slots_of(line: &[u8]) -> Decimal
-    ensures { λ r. ⌜ r ≡ decimalOf (slotsOf (readFields card (cut comma (now (line .entry))))) ⌝ }
+// The slots of a line that is spelled k,l,slots, with scalars of no more figures than the limits allow.
+pub fn slots_of(limits: Limits, line: &[u8]) -> Decimal
+    ensures { λ r. ⌜ r ≡ decimalOf (slotsOf (readFields limits (cut comma (now (line .entry))))) ⌝ }
 {
-    if sheet::fields::is_scalar_at(line, 0) {
-        if sheet::fields::is_scalar_at(line, 1) {
+    if sheet::fields::is_scalar_at(limits, line, 0) {
+        if sheet::fields::is_scalar_at(limits, line, 1) {
             if sheet::fields::count(line) == 3 {
                 return sheet::fields::decimal_at(line, 2);
             }

@@ -80,13 +80,13 @@ pub sum-start : (x y z : ℕ) → eqb (x + y + 0) (z + 0) ≡ eqb (x + y) z
 sum-start x y z = same-test (x + y + 0) (z + 0) (x + y) z (λ q. omega arith) (λ q. omega arith)
 
 -- the sum xs against a sign and a size k: with a plus, k and the empty sum ys come to it; with a minus, k and it come to ys
-module _ {m n : ℕ} (xs ys : List ℕ) (none : Holds m ys (pos 0)) where
-  pub is-plus : (sign k : ℕ) (z : ℤ) → sign ≡ 0 → Holds n xs z → eqb (k + value ys) (value xs) ≡ sameNumber z (signedBy sign (pos k))
+module _ {c m n : ℕ} (xs ys : List ℕ) (none : Holds c m ys (pos 0)) where
+  pub is-plus : (sign k : ℕ) (z : ℤ) → sign ≡ 0 → Holds c n xs z → eqb (k + value ys) (value xs) ≡ sameNumber z (signedBy sign (pos k))
   is-plus zero k (pos a) e i = same-test (k + value ys) (value xs) a k (λ q. omega (arith, none .is, i .is)) (λ q. omega (arith, none .is, i .is))
   is-plus zero k (negsuc a) e i = ne-eqb (k + value ys) (value xs) (λ q. omega (arith, none .is, i .is))
   is-plus (suc s) k z e i = absurd (omega arith)
 
-  pub is-minus : (sign k : ℕ) (z : ℤ) → sign ≢ 0 → Holds n xs z → eqb (k + value xs) (value ys) ≡ sameNumber z (signedBy sign (pos k))
+  pub is-minus : (sign k : ℕ) (z : ℤ) → sign ≢ 0 → Holds c n xs z → eqb (k + value xs) (value ys) ≡ sameNumber z (signedBy sign (pos k))
   is-minus zero k z e i = absurd (e refl)
   is-minus (suc s) zero (pos a) e i = same-test (0 + value xs) (value ys) a 0 (λ q. omega (arith, none .is, i .is)) (λ q. omega (arith, none .is, i .is))
   is-minus (suc s) zero (negsuc a) e i = ne-eqb (0 + value xs) (value ys) (λ q. omega (arith, none .is, i .is))

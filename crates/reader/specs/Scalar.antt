@@ -2,15 +2,14 @@
 use mathlib.Core.Path.{_≡_}
 use mathlib.Core.Bool.{true}
 use mathlib.Core.List.{List}
-use Prim.Native.Nat.{ℕ, _+_, _-_, _*_, _≤_, _<_}
-use lib.ListN.{length, take}
-use Rattle.digits.specs.Limits.{card}
+use Prim.Native.Nat.{ℕ, _+_, _-_, _*_, _<_}
+use lib.ListN.{take}
 use Rattle.sheet.specs.Numeral.{figures, followed}
 use Rattle.reader.specs.declared.compare.Figures.{Figures}
 
--- s is the figures of a scalar
+-- s is figures of a scalar
 abbrev pub Figured : List ℕ → Type 0
-Figured s = (length s ≤ card .figures) × (figures 16 s ≡ true)
+Figured s = figures 16 s ≡ true
 
 -- the number of the figures before a place
 abbrev pub before : List ℕ → ℕ → ℕ

@@ -1,16 +1,16 @@
 ghost use mathlib.Core.Path.{_≡_};
 ghost use mathlib.Core.Bool.{true};
-ghost use Prim.Native.Nat.{_+_, _≤_};
+ghost use Prim.Native.Nat.{_+_, _*_, _≤_};
 ghost use lib.Dec.{eqb};
-ghost use lib.IntN.{ℤ};
+ghost use lib.IntN.{ℤ, pos};
 ghost use lib.ListN.{length};
-ghost use Rattle.digits.specs.Limits.{card};
 ghost use Rattle.sheet.specs.Numeral.{followed};
 ghost use Rattle.sheet.specs.Spelling.Field.{isWhole, wholeOf};
 ghost use Rattle.sheet.specs.Questions.{sameNumber};
-ghost use Rattle.survey.specs.Sum.{limb, most, value, Holds, Roomy};
+ghost use Rattle.survey.specs.Sum.{limb, limbsOf, most, value, Near, Roomy, Holds};
+ghost use Rattle.survey.specs.Survey.{Held};
 ghost use Rattle.reader.specs.Scalar.{Figured, Below};
-use survey::LIMBS;
+use digits::Limits;
 
 // One more than the largest limb of a scalar.
 const LIMB: u64 = 65536;
@@ -52,16 +52,17 @@ fn limb_before(figures: &[u8], end: usize) -> Figures
     }
 }
 
-// Whether the sum `from` and the number of the figures come to the sum `to`.
+// Whether the sum `from` and the number of the figures come to the sum `to`, which has as many limbs.
 fn reaches(from: &[u64], to: &[u64], figures: &[u8]) -> bool
-    requires { ⌜ Roomy (now from) × (Roomy (now to) × Figured (now figures)) ⌝ }
+    requires { ⌜ Roomy (now from) × (Roomy (now to) × (length (now from) ≡ length (now to))) ⌝ }
+    requires { ⌜ Figured (now figures) × (length (now figures) ≤ 4 * length (now from)) ⌝ }
     ensures { λ r. ⌜ r ≡ eqb (followed 16 0 (now (figures .entry)) + value (now (from .entry))) (value (now (to .entry))) ⌝ }
 {
     let mut end = figures.len();
     let mut left = 0;
     let mut right = 0;
     let mut i = 0;
-    while i < LIMBS {
+    while i < from.len() {
         let low = limb_before(figures, end);
         let a = low.value + from[i] + left;
         let b = to[i] + right;
@@ -77,14 +78,14 @@ fn reaches(from: &[u64], to: &[u64], figures: &[u8]) -> bool
 }
 
 // Whether the sum is the scalar of a field: a minus exchanges the sum and the empty one.
-pub fn is(limbs: &[u64], field: &[u8]) -> bool
-    requires { ⌜ Roomy (now limbs) × (isWhole 16 (card .figures) (now field) ≡ true) ⌝ }
-    ensures { λ r. ⌜ ((z : ℤ) → Holds most (now (limbs .entry)) z → r ≡ sameNumber z (wholeOf 16 (now (field .entry)))) ⌝ }
+pub fn is(limits: Limits, limbs: &[u64], empty: &[u64], field: &[u8]) -> bool
+    requires { ⌜ Held limits × (Near (limbsOf limits) most (now limbs) × Holds (limbsOf limits) 0 (now empty) (pos 0)) ⌝ }
+    requires { ⌜ isWhole 16 (limits .figures) (now field) ≡ true ⌝ }
+    ensures { λ r. ⌜ ((z : ℤ) → Holds (limbsOf limits) most (now (limbs .entry)) z → r ≡ sameNumber z (wholeOf 16 (now (field .entry)))) ⌝ }
 {
-    let empty = survey::empty();
     let figures = sheet::fields::unsigned(field);
     if sheet::fields::sign_of(field) == 0 {
-        return reaches(&empty, limbs, figures);
+        return reaches(empty, limbs, figures);
     }
-    reaches(limbs, &empty, figures)
+    reaches(limbs, empty, figures)
 }

@@ -4,6 +4,7 @@ mod judge;
 mod text;
 
 pub use judge::Judgement;
+pub use judge::gateway_read;
 pub use judge::read;
 pub use text::Text;
 pub use text::verdict;

@@ -15,7 +15,7 @@ use lib.IntN.{ℤ, pos, natAbs}
 use Rattle.digits.specs.Buffer.{rowBelow, columnsBelow}
 use Rattle.digits.specs.Byte.{byteOf}
 use Rattle.digits.specs.Column as Columns
-use Rattle.digits.specs.Limits.{Limits}
+use Rattle.digits.specs.declared.limits.Limits.{Limits}
 use Rattle.digits.specs.Missed.{missed}
 use Rattle.digits.specs.Row.{isWindow, value, weight, Over}
 use Rattle.digits.specs.Scalar.{signedScalar, sized, bitLength}

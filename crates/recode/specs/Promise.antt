@@ -6,7 +6,7 @@ use Prim.Native.Nat.{ℕ}
 use lib.ListN.{length}
 use Rattle.digits.specs.Buffer.{rowBelow, columnsBelow}
 use Rattle.digits.specs.Column as Columns
-use Rattle.digits.specs.Limits.{Limits}
+use Rattle.digits.specs.declared.limits.Limits.{Limits}
 use Rattle.digits.specs.Row.{value}
 use Rattle.digits.specs.Scalar.{signedScalar}
 use Rattle.digits.specs.Two.{Column, P, Q, two}

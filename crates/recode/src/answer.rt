@@ -3,7 +3,7 @@ ghost use Rattle.recode.specs.Call.{number, placesWritten, weightWritten
 
 // What a call answers: the question missed, or what was written.
 pub enum Recoded {
-    // Question 1: a scalar has 1 to 66 bytes.
+    // Question 1: a scalar has a byte, and no more than the limits allow.
     BadScalar,
     // Question 2: a window is odd, 1 to 31.
     BadWindow,

@@ -5,7 +5,7 @@ ghost use Prim.Native.Nat.{_+_, _*_, _/_, _%_, _^_, _<_, _≤_, max};
 ghost use lib.IntN.{pos};
 ghost use lib.ListN.{length, replicate};
 ghost use Rattle.digits.specs.Column;
-ghost use Rattle.digits.specs.Limits.{card};
+ghost use Rattle.digits.specs.Limits.{card, gateway};
 ghost use Rattle.digits.specs.Scalar;
 ghost use Rattle.digits.specs.Scalar.{little, signedScalar, bitLength};
 ghost use Rattle.digits.specs.Two.{P, Q, two};
@@ -16,6 +16,7 @@ ghost use Rattle.recode.specs.Call.Joint.{digitsOf};
 ghost use Rattle.recode.specs.Call.{number, wroteColumns, jointQuestion, jointAnswer, jointBuffer, JointPromised, filled};
 use crate::answer::Recoded;
 use crate::low::Low;
+use digits::Limits;
 
 // The joint digits: a line for each remainder by eight of a number, an entry for each that the other number can have.
 #[rattlefmt::skip]
@@ -130,10 +131,19 @@ fn larger(a: usize, b: usize) -> usize
 }
 
 // Writes the joint columns of two scalars, a row into each buffer, and zeros above them. Of each buffer only the places up to
-// the longer bit length plus one are lent to the digits.
-fn write_joint(k: &[u8], l: &[u8], k_out: &mut [u8], l_out: &mut [u8]) -> Recoded
-    requires { ⌜ (length (now k) ≤ 66) × (length (now l) ≤ 66) ⌝ }
+// the longer bit length plus one are lent to the digits. The remainders are lent as zeros and take the scalars' bytes.
+fn write_joint(
+    k: &[u8],
+    l: &[u8],
+    k_out: &mut [u8],
+    l_out: &mut [u8],
+    k_remainder: &mut [u8],
+    l_remainder: &mut [u8],
+) -> Recoded
+    requires { ⌜ (length (now k) ≤ gateway .bytes) × (length (now l) ≤ gateway .bytes) ⌝ }
     requires { ⌜ (8 * max (length (now k)) (length (now l)) + 1 ≤ length (now «k_out»)) × (8 * max (length (now k)) (length (now l)) + 1 ≤ length (now «l_out»)) ⌝ }
+    requires { ⌜ (length (now k) ≤ length (now «k_remainder»)) × (now «k_remainder» ≡ replicate (length (now «k_remainder»)) 0) ⌝ }
+    requires { ⌜ (length (now l) ≤ length (now «l_remainder»)) × (now «l_remainder» ≡ replicate (length (now «l_remainder»)) 0) ⌝ }
     ensures { λ r. ⌜ r ≡ wroteColumns (Joint.joint (pos (Scalar.scalar (now (k .entry)))) (pos (Scalar.scalar (now (l .entry))))) ⌝ }
     ensures { λ _. ⌜ now («k_out» .exit) ≡ filled (Column.row two P (Joint.joint (pos (Scalar.scalar (now (k .entry)))) (pos (Scalar.scalar (now (l .entry)))))) (now («k_out» .entry)) ⌝ }
     ensures { λ _. ⌜ now («l_out» .exit) ≡ filled (Column.row two Q (Joint.joint (pos (Scalar.scalar (now (k .entry)))) (pos (Scalar.scalar (now (l .entry)))))) (now («l_out» .entry)) ⌝ }
@@ -141,15 +151,15 @@ fn write_joint(k: &[u8], l: &[u8], k_out: &mut [u8], l_out: &mut [u8]) -> Recode
     let k_bits = crate::rows::bits_of(k);
     let l_bits = crate::rows::bits_of(l);
     let places = larger(k_bits, l_bits) + 1;
-    let k_bytes = crate::buffer::copied(k);
-    let l_bytes = crate::buffer::copied(l);
+    crate::buffer::copy_into(k, k_remainder);
+    crate::buffer::copy_into(l, l_remainder);
     digits::clear(k_out);
     digits::clear(l_out);
     let k_used = (k_bits + 7) / 8;
     let l_used = (l_bits + 7) / 8;
     write_columns(
-        &k_bytes,
-        &l_bytes,
+        k_remainder,
+        l_remainder,
         k_used,
         l_used,
         &mut k_out[..places],
@@ -165,18 +175,65 @@ fn write_signed_joint(
     l_sign: u32,
     k_out: &mut [u8],
     l_out: &mut [u8],
+    k_remainder: &mut [u8],
+    l_remainder: &mut [u8],
 ) -> Recoded
-    requires { ⌜ (length (now k) ≤ 66) × (length (now l) ≤ 66) ⌝ }
+    requires { ⌜ (length (now k) ≤ gateway .bytes) × (length (now l) ≤ gateway .bytes) ⌝ }
     requires { ⌜ (8 * max (length (now k)) (length (now l)) + 1 ≤ length (now «k_out»)) × (8 * max (length (now k)) (length (now l)) + 1 ≤ length (now «l_out»)) ⌝ }
+    requires { ⌜ (length (now k) ≤ length (now «k_remainder»)) × (now «k_remainder» ≡ replicate (length (now «k_remainder»)) 0) ⌝ }
+    requires { ⌜ (length (now l) ≤ length (now «l_remainder»)) × (now «l_remainder» ≡ replicate (length (now «l_remainder»)) 0) ⌝ }
     ensures { λ r. ⌜ r ≡ wroteColumns (Joint.joint (signedScalar (now (k .entry)) «k_sign») (signedScalar (now (l .entry)) «l_sign»)) ⌝ }
     ensures { λ _. ⌜ now («k_out» .exit) ≡ filled (digitsOf P (now (k .entry)) «k_sign» (now (l .entry)) «l_sign») (now («k_out» .entry)) ⌝ }
     ensures { λ _. ⌜ now («l_out» .exit) ≡ filled (digitsOf Q (now (k .entry)) «k_sign» (now (l .entry)) «l_sign») (now («l_out» .entry)) ⌝ }
 {
-    let answer = write_joint(k, l, k_out, l_out);
+    let answer = write_joint(k, l, k_out, l_out, k_remainder, l_remainder);
     let places = answer.places();
     crate::sign::give_sign(k_out, places, k_sign);
     crate::sign::give_sign(l_out, places, l_sign);
     answer
+}
+
+// The joint call by any limits up to the gateway's, with remainders of more bytes than they allow.
+fn joint_within(
+    limits: Limits,
+    k: &[u8],
+    k_sign: u32,
+    l: &[u8],
+    l_sign: u32,
+    k_digits: &mut [u8],
+    l_digits: &mut [u8],
+    k_remainder: &mut [u8],
+    l_remainder: &mut [u8],
+) -> Recoded
+    requires { ⌜ limits .bytes ≤ gateway .bytes ⌝ }
+    requires { ⌜ (limits .bytes < length (now «k_remainder»)) × (now «k_remainder» ≡ replicate (length (now «k_remainder»)) 0) ⌝ }
+    requires { ⌜ (limits .bytes < length (now «l_remainder»)) × (now «l_remainder» ≡ replicate (length (now «l_remainder»)) 0) ⌝ }
+    ensures answer { λ r. ⌜ r ≡ jointAnswer limits (now (k .entry)) «k_sign» (now (l .entry)) «l_sign» (length (now («k_digits» .entry))) (length (now («l_digits» .entry))) ⌝ }
+    ensures first { λ _. ⌜ now («k_digits» .exit) ≡ jointBuffer limits P (now (k .entry)) «k_sign» (now (l .entry)) «l_sign» (now («k_digits» .entry)) (now («l_digits» .entry)) ⌝ }
+    ensures second { λ _. ⌜ now («l_digits» .exit) ≡ jointBuffer limits Q (now (k .entry)) «k_sign» (now (l .entry)) «l_sign» (now («k_digits» .entry)) (now («l_digits» .entry)) ⌝ }
+    ensures promised { λ r. ⌜ JointPromised (signedScalar (now (k .entry)) «k_sign») (signedScalar (now (l .entry)) «l_sign») r (now («k_digits» .exit)) (now («l_digits» .exit)) ⌝ }
+    ensures question { λ r. ⌜ number r ≡ jointQuestion limits (now (k .entry)) (now (l .entry)) (length (now («k_digits» .entry))) (length (now («l_digits» .entry))) ⌝ }
+{
+    if digits::are_scalars(limits, k, l) {
+        let room = 8 * larger(k.len(), l.len()) + 1;
+        if k_digits.len() < room {
+            return Recoded::NoRoom;
+        }
+        if l_digits.len() < room {
+            return Recoded::NoRoom;
+        }
+        return write_signed_joint(
+            k,
+            k_sign,
+            l,
+            l_sign,
+            k_digits,
+            l_digits,
+            k_remainder,
+            l_remainder,
+        );
+    }
+    Recoded::BadScalar
 }
 
 // The joint sparse form of two scalars with signs: the digits of each row, from place 0 on, in bytes of two's complement.
@@ -194,15 +251,47 @@ pub fn joint(
     ensures promised { λ r. ⌜ JointPromised (signedScalar (now (k .entry)) «k_sign») (signedScalar (now (l .entry)) «l_sign») r (now («k_digits» .exit)) (now («l_digits» .exit)) ⌝ }
     ensures question { λ r. ⌜ number r ≡ jointQuestion card (now (k .entry)) (now (l .entry)) (length (now («k_digits» .entry))) (length (now («l_digits» .entry))) ⌝ }
 {
-    if digits::are_scalars(k, l) {
-        let room = 8 * larger(k.len(), l.len()) + 1;
-        if k_digits.len() < room {
-            return Recoded::NoRoom;
-        }
-        if l_digits.len() < room {
-            return Recoded::NoRoom;
-        }
-        return write_signed_joint(k, k_sign, l, l_sign, k_digits, l_digits);
-    }
-    Recoded::BadScalar
+    let mut k_remainder = [0u8; 67];
+    let mut l_remainder = [0u8; 67];
+    joint_within(
+        Limits::card(),
+        k,
+        k_sign,
+        l,
+        l_sign,
+        k_digits,
+        l_digits,
+        &mut k_remainder,
+        &mut l_remainder,
+    )
+}
+
+// The same for scalars of the gateway.
+pub fn gateway_joint(
+    k: &[u8],
+    k_sign: u32,
+    l: &[u8],
+    l_sign: u32,
+    k_digits: &mut [u8],
+    l_digits: &mut [u8],
+) -> Recoded
+    ensures answer { λ r. ⌜ r ≡ jointAnswer gateway (now (k .entry)) «k_sign» (now (l .entry)) «l_sign» (length (now («k_digits» .entry))) (length (now («l_digits» .entry))) ⌝ }
+    ensures first { λ _. ⌜ now («k_digits» .exit) ≡ jointBuffer gateway P (now (k .entry)) «k_sign» (now (l .entry)) «l_sign» (now («k_digits» .entry)) (now («l_digits» .entry)) ⌝ }
+    ensures second { λ _. ⌜ now («l_digits» .exit) ≡ jointBuffer gateway Q (now (k .entry)) «k_sign» (now (l .entry)) «l_sign» (now («k_digits» .entry)) (now («l_digits» .entry)) ⌝ }
+    ensures promised { λ r. ⌜ JointPromised (signedScalar (now (k .entry)) «k_sign») (signedScalar (now (l .entry)) «l_sign») r (now («k_digits» .exit)) (now («l_digits» .exit)) ⌝ }
+    ensures question { λ r. ⌜ number r ≡ jointQuestion gateway (now (k .entry)) (now (l .entry)) (length (now («k_digits» .entry))) (length (now («l_digits» .entry))) ⌝ }
+{
+    let mut k_remainder = [0u8; 129];
+    let mut l_remainder = [0u8; 129];
+    joint_within(
+        Limits::gateway(),
+        k,
+        k_sign,
+        l,
+        l_sign,
+        k_digits,
+        l_digits,
+        &mut k_remainder,
+        &mut l_remainder,
+    )
 }

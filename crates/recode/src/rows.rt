@@ -3,7 +3,7 @@ ghost use mathlib.Core.Bool.{true, false};
 ghost use Prim.Native.Nat.{_+_, _-_, _*_, _/_, _^_, _<_, _≤_};
 ghost use lib.IntN.{pos};
 ghost use lib.ListN.{length, replicate};
-ghost use Rattle.digits.specs.Limits.{card};
+ghost use Rattle.digits.specs.Limits.{card, gateway};
 ghost use Rattle.digits.specs.Row.{widest};
 ghost use Rattle.digits.specs.Scalar;
 ghost use Rattle.digits.specs.Scalar.{little, signedScalar, bitLength};
@@ -12,6 +12,7 @@ ghost use Rattle.forms.specs.Row.{row};
 ghost use Rattle.recode.specs.Call.{number, wroteRow, rowQuestion, rowAnswer, rowBuffer, RowPromised, filled};
 use crate::answer::Recoded;
 use crate::low::Low;
+use digits::Limits;
 
 // Whether nothing is left: no low bits, and none of the bytes that are in use.
 pub fn ended(low: Low, used: usize) -> bool
@@ -65,7 +66,7 @@ fn write_digits(bytes: &[u8], used: usize, m: u16, half: u16, out: &mut [u8]) ->
 
 // The bit length of a scalar, as one number.
 pub fn bits_of(scalar: &[u8]) -> usize
-    requires { ⌜ length (now scalar) ≤ 66 ⌝ }
+    requires { ⌜ length (now scalar) ≤ gateway .bytes ⌝ }
     ensures { λ r. ⌜ r ≡ bitLength (Scalar.scalar (now (scalar .entry))) ⌝ }
 {
     let length = digits::bit_length(scalar);
@@ -73,30 +74,65 @@ pub fn bits_of(scalar: &[u8]) -> usize
 }
 
 // Writes the scalar's row for the window m and zeros above it. Of the buffer only the places up to the bit length plus one
-// are lent to the digits.
-fn write_row(scalar: &[u8], m: u16, out: &mut [u8]) -> Recoded
-    requires { ⌜ (length (now scalar) ≤ 66) × ((1 ≤ m) × ((m ≤ widest) × (8 * length (now scalar) + 1 ≤ length (now out)))) ⌝ }
+// are lent to the digits. The remainder is lent as zeros and takes the scalar's bytes.
+fn write_row(scalar: &[u8], m: u16, out: &mut [u8], remainder: &mut [u8]) -> Recoded
+    requires { ⌜ (length (now scalar) ≤ gateway .bytes) × ((1 ≤ m) × ((m ≤ widest) × (8 * length (now scalar) + 1 ≤ length (now out)))) ⌝ }
+    requires { ⌜ (length (now scalar) ≤ length (now remainder)) × (now remainder ≡ replicate (length (now remainder)) 0) ⌝ }
     ensures { λ r. ⌜ r ≡ wroteRow (row m (pos (Scalar.scalar (now (scalar .entry))))) ⌝ }
     ensures { λ _. ⌜ now (out .exit) ≡ filled (row m (pos (Scalar.scalar (now (scalar .entry))))) (now (out .entry)) ⌝ }
 {
     let bits = bits_of(scalar);
     let used = (bits + 7) / 8;
     let places = bits + 1;
-    let bytes = crate::buffer::copied(scalar);
+    crate::buffer::copy_into(scalar, remainder);
     digits::clear(out);
     let half = crate::digit::half_of(m);
-    write_digits(&bytes, used, m, half, &mut out[..places])
+    write_digits(remainder, used, m, half, &mut out[..places])
 }
 
 // Writes the row of a scalar with a sign: that of its bytes, and then its sign.
-fn write_signed_row(scalar: &[u8], sign: u32, m: u16, out: &mut [u8]) -> Recoded
-    requires { ⌜ (length (now scalar) ≤ 66) × ((1 ≤ m) × ((m ≤ widest) × (8 * length (now scalar) + 1 ≤ length (now out)))) ⌝ }
+fn write_signed_row(
+    scalar: &[u8],
+    sign: u32,
+    m: u16,
+    out: &mut [u8],
+    remainder: &mut [u8],
+) -> Recoded
+    requires { ⌜ (length (now scalar) ≤ gateway .bytes) × ((1 ≤ m) × ((m ≤ widest) × (8 * length (now scalar) + 1 ≤ length (now out)))) ⌝ }
+    requires { ⌜ (length (now scalar) ≤ length (now remainder)) × (now remainder ≡ replicate (length (now remainder)) 0) ⌝ }
     ensures { λ r. ⌜ r ≡ wroteRow (row m (signedScalar (now (scalar .entry)) sign)) ⌝ }
     ensures { λ _. ⌜ now (out .exit) ≡ filled (row m (signedScalar (now (scalar .entry)) sign)) (now (out .entry)) ⌝ }
 {
-    let answer = write_row(scalar, m, out);
+    let answer = write_row(scalar, m, out, remainder);
     crate::sign::give_sign(out, answer.places(), sign);
     answer
+}
+
+// The row call by any limits up to the gateway's, with a remainder of more bytes than they allow.
+fn row_within(
+    limits: Limits,
+    scalar: &[u8],
+    sign: u32,
+    m: u32,
+    digits: &mut [u8],
+    remainder: &mut [u8],
+) -> Recoded
+    requires { ⌜ (limits .bytes ≤ gateway .bytes) × ((limits .bytes < length (now remainder)) × (now remainder ≡ replicate (length (now remainder)) 0)) ⌝ }
+    ensures answer { λ r. ⌜ r ≡ rowAnswer limits (now (scalar .entry)) sign m (length (now (digits .entry))) ⌝ }
+    ensures buffer { λ _. ⌜ now (digits .exit) ≡ rowBuffer limits (now (scalar .entry)) sign m (now (digits .entry)) ⌝ }
+    ensures promised { λ r. ⌜ RowPromised m (signedScalar (now (scalar .entry)) sign) r (now (digits .exit)) ⌝ }
+    ensures question { λ r. ⌜ number r ≡ rowQuestion limits (now (scalar .entry)) m (length (now (digits .entry))) ⌝ }
+{
+    if digits::is_scalar(limits, scalar) {
+        if digits::is_window(m) {
+            if digits.len() < 8 * scalar.len() + 1 {
+                return Recoded::NoRoom;
+            }
+            return write_signed_row(scalar, sign, m as u16, digits, remainder);
+        }
+        return Recoded::BadWindow;
+    }
+    Recoded::BadScalar
 }
 
 // The row of a scalar with a sign for the window m: its digits, from place 0 on, in bytes of two's complement.
@@ -106,14 +142,17 @@ pub fn row(scalar: &[u8], sign: u32, m: u32, digits: &mut [u8]) -> Recoded
     ensures promised { λ r. ⌜ RowPromised m (signedScalar (now (scalar .entry)) sign) r (now (digits .exit)) ⌝ }
     ensures question { λ r. ⌜ number r ≡ rowQuestion card (now (scalar .entry)) m (length (now (digits .entry))) ⌝ }
 {
-    if digits::is_scalar(scalar) {
-        if digits::is_window(m) {
-            if digits.len() < 8 * scalar.len() + 1 {
-                return Recoded::NoRoom;
-            }
-            return write_signed_row(scalar, sign, m as u16, digits);
-        }
-        return Recoded::BadWindow;
-    }
-    Recoded::BadScalar
+    let mut remainder = [0u8; 67];
+    row_within(Limits::card(), scalar, sign, m, digits, &mut remainder)
+}
+
+// The same for a scalar of the gateway.
+pub fn gateway_row(scalar: &[u8], sign: u32, m: u32, digits: &mut [u8]) -> Recoded
+    ensures answer { λ r. ⌜ r ≡ rowAnswer gateway (now (scalar .entry)) sign m (length (now (digits .entry))) ⌝ }
+    ensures buffer { λ _. ⌜ now (digits .exit) ≡ rowBuffer gateway (now (scalar .entry)) sign m (now (digits .entry)) ⌝ }
+    ensures promised { λ r. ⌜ RowPromised m (signedScalar (now (scalar .entry)) sign) r (now (digits .exit)) ⌝ }
+    ensures question { λ r. ⌜ number r ≡ rowQuestion gateway (now (scalar .entry)) m (length (now (digits .entry))) ⌝ }
+{
+    let mut remainder = [0u8; 129];
+    row_within(Limits::gateway(), scalar, sign, m, digits, &mut remainder)
 }

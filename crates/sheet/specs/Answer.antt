@@ -1,11 +1,12 @@
 -- The answer to a sheet, and when it is accepted for k and l.
 pub mod Exactly
+pub mod Wider
 use mathlib.Core.Path.{_≡_}
 use mathlib.Core.List.{List, [], _∷_}
 use mathlib.Core.Option.{Option, none, some}
 use Prim.Native.Nat.{ℕ}
 use lib.IntN.{ℤ, pos}
-use Rattle.digits.specs.Limits.{Limits}
+use Rattle.digits.specs.declared.limits.Limits.{Limits}
 use Rattle.sheet.specs.Plan.{slots}
 use Rattle.sheet.specs.Line.{interleaved, Header, plan, Line, header, table, load, double, add, end, misspelled}
 use Rattle.sheet.specs.Spelling.{lines}

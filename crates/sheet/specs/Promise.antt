@@ -1,19 +1,21 @@
 -- What is shown of sheets, in one place: when a sheet is accepted, what its steps are, that what is spelled is read, and what its plan
 -- takes. The definitions are those of Plan, Line, Spelling, Questions, Answer, Sound and Digits; the proofs are in the files that the
 -- answers name.
-use mathlib.Core.Path.{_≡_}
+use mathlib.Core.Path.{_≡_, ap}
 use mathlib.Core.Logic.{_≢_, _↔_}
 use mathlib.Core.List.{List, map}
 use Prim.Native.Nat.{ℕ, _+_, _%_, _≤_, min}
 use lib.IntN.{ℤ}
 use Rattle.digits.specs.Column.{row}
-use Rattle.digits.specs.Limits.{Limits}
+use Rattle.digits.specs.declared.limits.Limits.{Limits}
+use Rattle.digits.specs.Limits.{card, gateway, Wider, gateway-wider}
 use Rattle.digits.specs.Row.{value, widest}
 use Rattle.digits.specs.Two.{Two, two, digit}
 use Rattle.sheet.specs.declared.Plan.{Plan}
 use Rattle.sheet.specs.declared.Plan.the-variants.{I}
 use Rattle.sheet.specs.Answer.{Accepted, heading, sheetSlots, sheetAdditions}
 use Rattle.sheet.specs.Answer.Exactly as Exactly
+use Rattle.sheet.specs.Answer.Wider as Widening
 use Rattle.sheet.specs.Digits.{columns, Reads}
 use Rattle.sheet.specs.Digits.Accepted as Steps
 use Rattle.sheet.specs.Every.{Every}
@@ -36,6 +38,19 @@ accepted-exactly = Exactly.accepted-exactly
 pub accepted-states : (limits : Limits) (s : List ℕ) (k l : ℤ) → Accepted limits s k l
     → (heading (lines limits s) .slots ≡ sheetSlots limits s) × (heading (lines limits s) .additions ≡ sheetAdditions limits s)
 accepted-states = Exactly.accepted-states
+
+-- accepted under limits, a sheet is accepted under wider ones for the same k and l, and has the same lines
+pub accepted-wider : (narrow wide : Limits) → Wider narrow wide → (s : List ℕ) (k l : ℤ) → Accepted narrow s k l
+    → Accepted wide s k l × (lines wide s ≡ lines narrow s)
+accepted-wider = Widening.accepted-wider
+
+-- so a sheet that the card accepts is accepted at the gateway with the same result: for the same k and l, with the same slots and additions
+pub card-gateway : (s : List ℕ) (k l : ℤ) → Accepted card s k l
+    → Accepted gateway s k l × ((sheetSlots gateway s ≡ sheetSlots card s) × (sheetAdditions gateway s ≡ sheetAdditions card s))
+unfolding sheetSlots sheetAdditions
+card-gateway s k l a =
+    let (b, e) = Widening.accepted-wider card gateway gateway-wider s k l a in
+    (b, (ap (λ (ls : List Line). slots (plan (heading ls))) e, ap additions e))
 
 -- the steps of an accepted sheet are columns of its plan that read k and l at the cost of its additions
 pub accepted-rows : (limits : Limits) (s : List ℕ) (k l : ℤ) → Accepted limits s k l

@@ -9,7 +9,7 @@ use Prim.Native.Nat.{ℕ, zero, suc, _+_, _%_}
 use lib.Dec.{eqb, leb, ltb}
 use lib.ListN.{length}
 use lib.IntN.{ℤ, pos, negsuc, _+ℤ_, natAbs}
-use Rattle.digits.specs.Limits.{Limits}
+use Rattle.digits.specs.declared.limits.Limits.{Limits}
 use Rattle.digits.specs.Two.{isZero, blank}
 use Rattle.sheet.specs.declared.Plan.{Plan}
 use Rattle.sheet.specs.declared.Plan.the-variants.{J, I}
@@ -22,7 +22,7 @@ abbrev pub unless : Bool → ℕ → Option ℕ
 unless true n = none
 unless false n = some n
 
--- ── 5. Is it at most 16,384 bytes? ──────────────────────────────────────────────────────────
+-- ── 5. Is it at most 16,384 bytes, at the gateway 32,768? ───────────────────────────────────
 
 -- the whole sheet is at fault, line 0
 unfoldable pub tooLong : Limits → List ℕ → Option ℕ
@@ -142,7 +142,7 @@ disallowedFrom p before n [] = none
 unfoldable pub disallowed : Plan → List Line → Option ℕ
 disallowed p ls = disallowedFrom p 0 1 ls
 
--- ── 9. Are there at most 528 D lines? ───────────────────────────────────────────────────────
+-- ── 9. Are there at most 528 D lines, at the gateway 1,024? ─────────────────────────────────
 
 -- the first D line beyond as many as are left
 unfoldable pub excessFrom : ℕ → ℕ → List Line → Option ℕ
@@ -156,7 +156,7 @@ excessFrom left n (end ∷ ls) = excessFrom left (suc n) ls
 excessFrom left n (misspelled ∷ ls) = excessFrom left (suc n) ls
 excessFrom left n [] = none
 
--- the 529th D line
+-- the first D line beyond those that the limits allow
 unfoldable pub excess : Limits → List Line → Option ℕ
 excess limits ls = excessFrom (limits .doublings) 1 ls
 

@@ -1,11 +1,12 @@
--- Samples, by computation: the sheet of 01 for 7, 2 is accepted, with its additions untrue it is not, and a table of sheets
--- with their answers.
+-- Samples, by computation: the sheet of 01 for 7, 2 is accepted, with its additions untrue it is not, and tables of sheets with
+-- their answers, on the card and at the gateway.
 use mathlib.Core.Path.{_≡_, refl}
 use mathlib.Core.List.{List, [], _∷_, map}
 use Prim.Native.Nat.{ℕ, zero, suc}
 use lib.IntN.{pos, negsuc}
 use Prim.Native.String.{String, _++_}
-use Rattle.digits.specs.Limits.{card}
+use Rattle.digits.specs.declared.limits.Limits.{Limits}
+use Rattle.digits.specs.Limits.{card, gateway}
 use Rattle.sheet.specs.Ascii.{ascii}
 use Rattle.sheet.specs.Plan.{odds}
 use Rattle.sheet.specs.Numeral.{figures, followed, number}
@@ -31,10 +32,10 @@ use Rattle.sheet.specs.Questions.{
 }
 use Rattle.sheet.specs.Answer.{Answer, accepted, refused, judged, answer, Accepted}
 
--- the card's answer, with every definition that it computes by
-unfoldable pub computed : List ℕ → Answer
+-- the answer, with every definition that it computes by
+unfoldable pub computed : Limits → List ℕ → Answer
 unfolding figures followed number odds cut readPoint readHeader readBehind readLine readLines lines tooLong afterLoad afterHeader misplaced tableLines differs offPlan disallowedFrom disallowed excessFrom excess additions doublings miscounted held result wrong judged answer
-computed s = answer card s
+computed limits s = answer limits s
 
 -- what order `7,2,0` to the order program prints, whole
 abbrev pub sheet : List ℕ
@@ -65,7 +66,7 @@ unfoldable pub times : ℕ → String → String
 times zero s = ""
 times (suc n) s = s ++ times n s
 
--- sheets with their answers
+-- sheets with the card's answers
 abbrev pub cases : List (String × Answer)
 cases =
     -- nothing at all; a line behind E; a last line without its line feed
@@ -178,3 +179,24 @@ cases =
 pub samples : map (λ c. answer card (ascii (c .0))) cases ≡ map (λ c. c .1) cases
 unfolding times computed
 samples = refl
+
+-- sheets with the gateway's answers
+abbrev pub gateway-cases : List (String × Answer)
+gateway-cases =
+    -- what the card accepts; scalars of 133 figures, of 256, of 257, of 256 and a minus
+    ("S,I,1,1,0,2,3,7,2\nL,1,0\nD\nD\nA,0,1\nD\nA,-1,0\nE\n", accepted)
+    ∷ ("S,I,1,1,0,1,532," ++ times 133 "f" ++ ",0\nL,1,0\n" ++ times 532 "D\n" ++ "A,-1,0\nE\n", accepted)
+    ∷ ("S,I,1,1,0,0,0," ++ times 256 "f" ++ ",0\nE\n", refused 11 1)
+    ∷ ("S,I,1,1,0,0,0," ++ times 257 "f" ++ ",0\nE\n", refused 6 1)
+    ∷ ("S,I,1,1,0,0,0,-" ++ times 256 "f" ++ ",0\nE\n", refused 11 1)
+    -- 1,024 D lines; 1,025, of which the last is at fault
+    ∷ ("S,I,1,1,0,1,1024," ++ times 256 "f" ++ ",0\nL,1,0\n" ++ times 1024 "D\n" ++ "A,-1,0\nE\n", accepted)
+    ∷ ("S,I,1,1,0,1,1025," ++ times 256 "f" ++ ",0\nL,1,0\n" ++ times 1025 "D\n" ++ "A,-1,0\nE\n", refused 9 1027)
+    -- 32,768 bytes and 32,769, misspelled from the first line on
+    ∷ (times 32768 "\n", refused 6 1)
+    ∷ (times 32769 "\n", refused 5 0)
+    ∷ []
+
+pub gateway-samples : map (λ c. answer gateway (ascii (c .0))) gateway-cases ≡ map (λ c. c .1) gateway-cases
+unfolding times computed
+gateway-samples = refl

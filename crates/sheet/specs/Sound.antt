@@ -6,7 +6,7 @@ use Prim.Native.Nat.{ℕ, suc, _%_, _≤_, _<_}
 use lib.Dec.{T}
 use lib.ListN.{length}
 use lib.IntN.{ℤ, pos, natAbs}
-use Rattle.digits.specs.Limits.{Limits}
+use Rattle.digits.specs.declared.limits.Limits.{Limits}
 use Rattle.digits.specs.Two.{blank}
 use Rattle.sheet.specs.declared.Plan.{Plan}
 use Rattle.sheet.specs.declared.Plan.the-variants.{J, I}
@@ -96,7 +96,7 @@ pub record Sound (limits : Limits) (s : List ℕ) (k l : ℤ) : Type 0 where
   pub stored : head .slots ≡ slots (plan head)
   -- each step is allowed by the plan
   pub allowed : Allowed (plan head) steps
-  -- there are at most 528 D lines
+  -- there are no more D lines than the limits allow
   pub low : stepDoubles steps ≤ limits .doublings
   -- both counts are true
   pub adds : head .additions ≡ additions (lines limits s)

@@ -12,7 +12,7 @@ use Prim.Native.Char.{code}
 use lib.Dec.{eqb}
 use lib.ListN.{length, getD}
 use lib.IntN.{ℤ, pos, negsuc}
-use Rattle.digits.specs.Limits.{Limits}
+use Rattle.digits.specs.declared.limits.Limits.{Limits}
 use Rattle.sheet.specs.Ascii.{ascii}
 use Rattle.sheet.specs.Plan.{Point, point}
 use Rattle.sheet.specs.Numeral.{numeral, number}

@@ -4,19 +4,17 @@ ghost use mathlib.Core.List.{[]};
 ghost use Prim.Native.Nat.{_≤_, _<_};
 ghost use lib.Dec.{eqb};
 ghost use lib.ListN.{length, getD};
-ghost use Rattle.digits.specs.Limits.{card};
 ghost use Rattle.sheet.specs.Spelling.{comma, cut, letter, readDecimal};
 ghost use Rattle.sheet.specs.Spelling.Field.{First, Behind, signOf, unsigned, isWhole, decimalOf};
 use crate::figures::Decimal;
+use digits::Limits;
 
 const COMMA: u8 = b',';
 
 const MINUS: u8 = b'-';
 
-// The figures of a decimal, and those of a scalar.
+// The figures of a decimal.
 const DECIMAL_FIGURES: usize = 4;
-
-const SCALAR_FIGURES: usize = 132;
 
 // The index of the first b in s, or the length where there is none.
 pub fn find(s: &[u8], b: u8) -> usize
@@ -122,20 +120,20 @@ fn is_signed(sign: u32, figures: &[u8]) -> bool
     true
 }
 
-// Whether a field is a scalar, with a minus if negative.
-fn is_scalar(field: &[u8]) -> bool
-    ensures { λ r. ⌜ r ≡ isWhole 16 (card .figures) (now (field .entry)) ⌝ }
+// Whether a field is a scalar, with a minus if negative, of no more figures than the limits allow.
+fn is_scalar(limits: Limits, field: &[u8]) -> bool
+    ensures { λ r. ⌜ r ≡ isWhole 16 (limits .figures) (now (field .entry)) ⌝ }
 {
     let figures = unsigned(field);
-    if crate::figures::is_numeral(figures, 16, SCALAR_FIGURES) {
+    if crate::figures::is_numeral(figures, 16, limits.figures) {
         return is_signed(sign_of(field), figures);
     }
     false
 }
 
 // Whether the field at k is a scalar.
-pub fn is_scalar_at(s: &[u8], k: usize) -> bool
-    ensures { λ r. ⌜ r ≡ isWhole 16 (card .figures) (getD (cut comma (now (s .entry))) k []) ⌝ }
+pub fn is_scalar_at(limits: Limits, s: &[u8], k: usize) -> bool
+    ensures { λ r. ⌜ r ≡ isWhole 16 (limits .figures) (getD (cut comma (now (s .entry))) k []) ⌝ }
 {
-    is_scalar(field(s, k))
+    is_scalar(limits, field(s, k))
 }

@@ -7,7 +7,7 @@ use native.Mathlib.Nat.{mul-le-mul, pow-suc}
 use native.Mathlib.Omega.{arith}
 use lib.Dec.{eqb}
 use lib.IntN.{ℤ, pos, _+ℤ_, _*ℤ_}
-use lib.ListN.{length, getD, set, replicate, length-set, length-replicate}
+use lib.ListN.{length, getD, set, length-set, length-replicate, getD-replicate}
 use lib.Pow.{pow-add, pow-mono, shl-exact}
 use lib.Seq.{getD-set-same, getD-set-other}
 use borrow.Author.Tests.{eqb-true, eqb-false}
@@ -15,22 +15,17 @@ use Rattle.digits.specs.Integer.{up, down}
 use Rattle.digits.specs.Integer.Parts.{negation, sum, times}
 use Rattle.lines.specs.Coded.{whole, numberOf}
 use Rattle.lines.specs.declared.point.Signed.{Signed}
-use Rattle.survey.specs.Sum.{limb, limbs, start, unit, value, empty, Near, Holds}
+use Rattle.survey.specs.Sum.{limb, start, unit, most, value, empty, Near, Roomy, Holds}
 
 -- ── the limbs of 0 ──────────────────────────────────────────────────────────────────────────
 
-starts : (n i : ℕ) → i < n → getD (replicate n start) i 0 ≡ start
-starts zero i h = absurd (omega arith)
-starts (suc n) zero h = refl
-starts (suc n) (suc i) h = starts n i (omega arith)
-
-empty-limb : (i : ℕ) → i < limbs → getD empty i 0 ≡ start
+empty-limb : (c i : ℕ) → i < c → getD (empty c) i 0 ≡ start
 unfolding empty
-empty-limb i h = starts limbs i h
+empty-limb c i h = getD-replicate c i start 0 h
 
-empty-long : length empty ≡ limbs
+empty-long : (c : ℕ) → length (empty c) ≡ c
 unfolding empty
-empty-long = length-replicate {A = ℕ} limbs start
+empty-long c = length-replicate {A = ℕ} c start
 
 -- ── a digit by its sign and its size ────────────────────────────────────────────────────────
 
@@ -70,10 +65,10 @@ power n =
 pub units-most : (d k : ℕ) → d < 4294967296 → d * 2 ^ (k % 16) ≤ unit
 units-most d k h = mul-le-mul {n₁ = d} {m₁ = 2 ^ (k % 16)} {n₂ = 4294967296} {m₂ = 2 ^ 15} (omega arith) (pow-mono {i = k % 16} {j = 15} (omega arith))
 
-module _ {n : ℕ} {xs : List ℕ} (c : Near n xs) (i y : ℕ) (h : i < limbs) where
+module _ {count n : ℕ} {xs : List ℕ} (c : Near count n xs) (i y : ℕ) (h : i < count) where
   -- the limb moves by a unit at most
-  near-set : y ≤ getD xs i 0 + unit → getD xs i 0 ≤ y + unit → Near (suc n) (set xs i y)
-  near-set a b =
+  near-set : y ≤ getD xs i 0 + unit → getD xs i 0 ≤ y + unit → Near count (suc n) (set xs i y)
+  near-set above below =
       record {
         long = length-set xs i y ∙ c .long;
         least = λ k l. go-least k l (eqb k i) refl;
@@ -83,12 +78,12 @@ module _ {n : ℕ} {xs : List ℕ} (c : Near n xs) (i y : ℕ) (h : i < limbs) w
       here : (k : ℕ) → eqb k i ≡ true → getD (set xs i y) k 0 ≡ y
       here k e = ap (λ (m : ℕ). getD (set xs i y) m 0) (eqb-true k i e) ∙ getD-set-same xs i y 0 (omega (arith, c .long))
 
-      go-least : (k : ℕ) → k < limbs → (t : Bool) → eqb k i ≡ t → start ≤ getD (set xs i y) k 0 + suc n * unit
-      go-least k l true e = omega (arith, here k e, c .least i h, b)
+      go-least : (k : ℕ) → k < count → (t : Bool) → eqb k i ≡ t → start ≤ getD (set xs i y) k 0 + suc n * unit
+      go-least k l true e = omega (arith, here k e, c .least i h, below)
       go-least k l false e = omega (arith, getD-set-other xs i k y 0 (eqb-false k i e), c .least k l)
 
-      go-high : (k : ℕ) → k < limbs → (t : Bool) → eqb k i ≡ t → getD (set xs i y) k 0 ≤ start + suc n * unit
-      go-high k l true e = omega (arith, here k e, c .high i h, a)
+      go-high : (k : ℕ) → k < count → (t : Bool) → eqb k i ≡ t → getD (set xs i y) k 0 ≤ start + suc n * unit
+      go-high k l true e = omega (arith, here k e, c .high i h, above)
       go-high k l false e = omega (arith, getD-set-other xs i k y 0 (eqb-false k i e), c .high k l)
 
 -- the machine's shift loses no bit
@@ -96,7 +91,7 @@ pub units-are : (d k : ℕ) → d < 4294967296 → (d * 2 ^ (k % 16)) % 18446744
 units-are d k h = shl-exact {a = d} 32 (k % 16) 64 h (omega arith)
 
 -- a digit d at the place k
-module _ {n : ℕ} {xs : List ℕ} {z : ℤ} (c : Holds n xs z) (k : ℕ) (d : Signed) (low : k ≤ 528) (small : d .size < 4294967296) where
+module _ {count n : ℕ} {xs : List ℕ} {z : ℤ} (c : Holds count n xs z) (k : ℕ) (d : Signed) (low : k < 16 * length xs) (small : d .size < 4294967296) where
   abbrev units : ℕ
   units = d .size * 2 ^ (k % 16)
 
@@ -107,32 +102,35 @@ module _ {n : ℕ} {xs : List ℕ} {z : ℤ} (c : Holds n xs z) (k : ℕ) (d : S
   next-number : (up (z +ℤ pos (2 ^ k) *ℤ whole d) + (down z + 2 ^ k * down (whole d)) ≡ up z + 2 ^ k * up (whole d) + down (z +ℤ pos (2 ^ k) *ℤ whole d))
   next-number = omega (arith, sum z (pos (2 ^ k) *ℤ whole d), times (2 ^ k) (whole d))
 
+  inside : k / 16 < count
+  inside = omega (arith, c .near .long)
+
   changed : (y : ℕ) → value (set xs (k / 16) y) + getD xs (k / 16) 0 * limb ^ (k / 16) ≡ value xs + y * limb ^ (k / 16)
   changed y = value-set xs (k / 16) y (omega (arith, c .near .long))
 
-  pub digit-plus : d .negative ≡ false → Holds (suc n) (set xs (k / 16) (getD xs (k / 16) 0 + units)) (z +ℤ pos (2 ^ k) *ℤ whole d)
+  pub digit-plus : d .negative ≡ false → Holds count (suc n) (set xs (k / 16) (getD xs (k / 16) 0 + units)) (z +ℤ pos (2 ^ k) *ℤ whole d)
   digit-plus e =
       let y = getD xs (k / 16) 0 + units in
       let s = sign-plus d e in
       record {
-        near = near-set (c .near) (k / 16) y (omega arith) (omega (arith, units-most (d .size) k small)) (omega arith);
+        near = near-set (c .near) (k / 16) y inside (omega (arith, units-most (d .size) k small)) (omega arith);
         is = omega (arith, c .is, changed y, counts, next-number, ap (λ (m : ℕ). 2 ^ k * m) (s .0), ap (λ (m : ℕ). 2 ^ k * m) (s .1));
       }
 
-  pub digit-minus : d .negative ≡ true → units ≤ getD xs (k / 16) 0 → Holds (suc n) (set xs (k / 16) (getD xs (k / 16) 0 - units)) (z +ℤ pos (2 ^ k) *ℤ whole d)
+  pub digit-minus : d .negative ≡ true → units ≤ getD xs (k / 16) 0 → Holds count (suc n) (set xs (k / 16) (getD xs (k / 16) 0 - units)) (z +ℤ pos (2 ^ k) *ℤ whole d)
   digit-minus e l =
       let y = getD xs (k / 16) 0 - units in
       let s = sign-minus d e in
       let back : y * limb ^ (k / 16) + units * limb ^ (k / 16) ≡ getD xs (k / 16) 0 * limb ^ (k / 16) =
       let whole : y + units ≡ getD xs (k / 16) 0 = omega arith in omega (arith, ap (λ (m : ℕ). m * limb ^ (k / 16)) whole) in
       record {
-        near = near-set (c .near) (k / 16) y (omega arith) (omega arith) (omega (arith, units-most (d .size) k small));
+        near = near-set (c .near) (k / 16) y inside (omega arith) (omega (arith, units-most (d .size) k small));
         is = omega (arith, c .is, changed y, counts, next-number, back, ap (λ (m : ℕ). 2 ^ k * m) (s .0), ap (λ (m : ℕ). 2 ^ k * m) (s .1));
       }
 
 -- ── the limbs of 0, and bounds that are wider ───────────────────────────────────────────────
 
-pub near-later : {n m : ℕ} {xs : List ℕ} → Near n xs → n ≤ m → Near m xs
+pub near-later : {count n m : ℕ} {xs : List ℕ} → Near count n xs → n ≤ m → Near count m xs
 near-later c h =
     record {
       long = c .long;
@@ -140,15 +138,23 @@ near-later c h =
       high = λ i l. omega (arith, c .high i l);
     }
 
-pub holds-later : {n m : ℕ} {xs : List ℕ} {z : ℤ} → Holds n xs z → n ≤ m → Holds m xs z
+pub holds-later : {count n m : ℕ} {xs : List ℕ} {z : ℤ} → Holds count n xs z → n ≤ m → Holds count m xs z
 holds-later c h = record { near = near-later (c .near) h; is = c .is }
 
-pub holds-none : {xs : List ℕ} → xs ≡ empty → Holds 0 xs (pos 0)
-holds-none {xs} e =
+pub holds-none : {c : ℕ} {xs : List ℕ} → xs ≡ empty c → Holds c 0 xs (pos 0)
+holds-none {c} {xs} e =
     record {
-      near = record { long = ap length e ∙ empty-long; least = λ i l. omega (arith, at i l); high = λ i l. omega (arith, at i l) };
+      near = record { long = ap length e ∙ empty-long c; least = λ i l. omega (arith, at i l); high = λ i l. omega (arith, at i l) };
       is = omega (arith, ap value e);
     }
   where
-    at : (i : ℕ) → i < limbs → getD xs i 0 ≡ start
-    at i l = ap (λ (ys : List ℕ). getD ys i 0) e ∙ empty-limb i l
+    at : (i : ℕ) → i < c → getD xs i 0 ≡ start
+    at i l = ap (λ (ys : List ℕ). getD ys i 0) e ∙ empty-limb c i l
+
+-- so many digits leave room for one more
+pub roomy : {count n : ℕ} {xs : List ℕ} → Near count n xs → n ≤ most → Roomy xs
+roomy {xs = xs} c h = subst (λ (m : ℕ). Near m most xs) (sym (c .long)) (near-later c h)
+
+-- the limbs by another name of their number
+pub holds-as : {count other n : ℕ} {xs : List ℕ} {z : ℤ} → count ≡ other → Holds count n xs z → Holds other n xs z
+holds-as {n = n} {xs} {z} e c = subst (λ (m : ℕ). Holds m n xs z) e c

@@ -3,11 +3,11 @@ use mathlib.Core.Path.{_≡_, refl, ap, _∙_}
 use mathlib.Core.Bool.{Bool, true, false, cond}
 use mathlib.Core.List.{List, _∷_}
 use mathlib.Core.Option.{some}
-use Prim.Native.Nat.{ℕ, _+_, _-_, _≤_}
+use Prim.Native.Nat.{ℕ, zero, suc, _+_, _-_, _≤_}
 use native.Mathlib.Omega.{arith}
 use lib.Dec.{leb}
 use borrow.Author.Tests.{leb-true}
-use Rattle.digits.specs.Limits.{card}
+use Rattle.digits.specs.declared.limits.Limits.{Limits}
 use Rattle.sheet.specs.declared.Plan.{Plan}
 use Rattle.sheet.specs.Plan.{tables, slots, tableDoublings}
 use Rattle.sheet.specs.Line.{Line, Header, header}
@@ -16,11 +16,11 @@ use Rattle.lines.specs.Coded.{kindOf, codedHeader}
 use Rattle.survey.specs.Survey.State.{earlier, planFor, isOnPlan, claimedOf, claimed, claimedBy}
 
 -- a claim keeps the limit
-pub claimed-most : (p : Plan) (n : ℕ) → claimedOf p n ≤ 528
-claimed-most p n = go (leb (n - tableDoublings p) 528) refl
+pub claimed-most : (most : ℕ) (p : Plan) (n : ℕ) → claimedOf most p n ≤ most
+claimed-most most p n = go (leb (n - tableDoublings p) most) refl
   where
-    go : (b : Bool) → leb (n - tableDoublings p) 528 ≡ b → cond b (n - tableDoublings p) 0 ≤ 528
-    go true e = leb-true (n - tableDoublings p) 528 e
+    go : (b : Bool) → leb (n - tableDoublings p) most ≡ b → cond b (n - tableDoublings p) 0 ≤ most
+    go true e = leb-true (n - tableDoublings p) most e
     go false e = omega arith
 
 module _ (h : Header) (ls : List Line) where
@@ -54,9 +54,13 @@ module _ (h : Header) (ls : List Line) where
   unfolding disallowed disallowedFrom
   begin-disallowed p = refl
 
-  pub begin-excess : excessFrom 528 2 ls ≡ excess card (header h ∷ ls)
+  pub begin-excess : (limits : Limits) → excessFrom (limits .doublings) 2 ls ≡ excess limits (header h ∷ ls)
   unfolding excess excessFrom
-  begin-excess = refl
+  begin-excess limits = go (limits .doublings)
+    where
+      go : (left : ℕ) → excessFrom left 2 ls ≡ excessFrom left 1 (header h ∷ ls)
+      go zero = refl
+      go (suc left) = refl
 
   pub begin-additions : 0 + additions ls ≡ additions (header h ∷ ls)
   unfolding additions
@@ -66,5 +70,5 @@ module _ (h : Header) (ls : List Line) where
   unfolding doublings
   begin-doublings = omega arith
 
-  pub begin-claimed : claimed (codedHeader h) ≡ claimedBy h
-  begin-claimed = ap (λ (p : Plan). claimedOf p (h .doublings)) begin-plan
+  pub begin-claimed : (limits : Limits) → claimed limits (codedHeader h) ≡ claimedBy limits h
+  begin-claimed limits = ap (λ (p : Plan). claimedOf (limits .doublings) p (h .doublings)) begin-plan

@@ -4,7 +4,7 @@ use mathlib.Core.List.{List, [], _∷_}
 use mathlib.Core.Option.{none, some}
 use Prim.Native.Nat.{ℕ, _+_, _≤_}
 use native.Mathlib.Omega.{arith}
-use Rattle.digits.specs.Limits.{card}
+use Rattle.digits.specs.declared.limits.Limits.{Limits}
 use Rattle.sheet.specs.declared.Plan.{Plan}
 use Rattle.sheet.specs.Line.{Header, Line, plan, header, table, load, double, add, end, misspelled}
 use Rattle.sheet.specs.Questions.{disallowedFrom, excessFrom, additions, doublings, misplaced, offPlan, disallowed, excess, afterHeader, afterLoad}
@@ -59,7 +59,7 @@ going-end plan s ls r (scan.the-variants.Met t) g f =
     }
 going-end plan s ls r (scan.the-variants.Misplaced n) g f = sym (g .misplaced) ∙ f
 
-places-most : (n : ℕ) (l : Line) → placesAfter n l ≤ n
+pub places-most : (n : ℕ) (l : Line) → placesAfter n l ≤ n
 places-most n (header h) = omega arith
 places-most n (table t) = omega arith
 places-most n (load t) = omega arith
@@ -69,13 +69,12 @@ places-most n end = omega arith
 places-most n misspelled = omega arith
 
 pub counted-turn : {plan : Plan} {r t : State} {l : Line} → Counted r → Follows plan r l t → t .line ≤ 100000 → Counted t
-counted-turn {r = r} {l = l} c f h =
+counted-turn c f h =
     record {
       few = h;
       tables = omega (arith, c .tables, f .tables, f .line);
       additions = omega (arith, c .additions, f .adds, f .line);
       doublings = omega (arith, c .doublings, f .doubles, f .line);
-      places = omega (arith, c .places, f .places, places-most (r .places) l);
     }
 
 -- ── behind the last line ────────────────────────────────────────────────────────────────────
@@ -130,8 +129,8 @@ no-opening (end ∷ ls) e = refl
 no-opening (misspelled ∷ ls) e = refl
 
 -- behind the header, the whole sheet
-module _ {h : Header} {ls : List Line} {u : header-of.Header} {s : State} (e : u ≡ codedHeader h) (b : Behind h s) where
-  pub surveyed-met : (all : List Line) (r : State) → all ≡ header h ∷ ls → Reached (plan h) s ls r → Answered all u r
+module _ {limits : Limits} {h : Header} {ls : List Line} {u : header-of.Header} {s : State} (e : u ≡ codedHeader h) (b : Behind limits h s) where
+  pub surveyed-met : (all : List Line) (r : State) → all ≡ header h ∷ ls → Reached (plan h) s ls r → Answered limits all u r
   surveyed-met all r i f =
       record {
         h = h;
@@ -141,7 +140,7 @@ module _ {h : Header} {ls : List Line} {u : header-of.Header} {s : State} (e : u
         misplaced = ap misplaced i ∙ sym (b .misplaced ls) ∙ f .misplaced;
         offPlan = ap (offPlan h) i ∙ sym (b .offPlan ls) ∙ f .offPlan;
         disallowed = ap (disallowed (plan h)) i ∙ sym (b .disallowed ls) ∙ f .disallowed;
-        excess = ap (excess card) i ∙ sym (b .excess ls) ∙ f .excess;
+        excess = ap (excess limits) i ∙ sym (b .excess ls) ∙ f .excess;
         additions = ap additions i ∙ sym (b .additions ls) ∙ f .additions;
         doublings = ap doublings i ∙ sym (b .doublings ls) ∙ f .doublings;
       }

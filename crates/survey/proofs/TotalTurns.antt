@@ -37,7 +37,7 @@ module _ (r : Two) (n : ℕ) {xs : List ℕ} where
   step-adds : {ys : List ℕ} (t : point-of.Point) (y : Point) → t ≡ codedPoint y → Added n (wholeIn r t) xs ys → (x l : Line) → x ≡ l
       → ((z : ℤ) → sumAfter r n z l ≡ z +ℤ pos (2 ^ n) *ℤ digit y r) → Adds r n x xs ys
   step-adds {ys} t y e a x l i s =
-      λ m z h. subst (Holds (suc m) ys) (ap (λ (d : ℤ). z +ℤ pos (2 ^ n) *ℤ d) (whole-digit r t y e) ∙ sym (ap (sumAfter r n z) i ∙ s z)) (a m z h)
+      λ c m z h. subst (Holds c (suc m) ys) (ap (λ (d : ℤ). z +ℤ pos (2 ^ n) *ℤ d) (whole-digit r t y e) ∙ sym (ap (sumAfter r n z) i ∙ s z)) (a c m z h)
 
   pub load-adds : {ys : List ℕ} (x : Line) (t : point-of.Point) → coded x ≡ Load t → Added n (wholeIn r t) xs ys → Adds r n x xs ys
   load-adds x t e a = let w = was x e in step-adds t (w .0) (w .2) a x (load (w .0)) (w .1) (λ z. refl)
@@ -47,7 +47,7 @@ module _ (r : Two) (n : ℕ) {xs : List ℕ} where
 
   -- a line that is no step
   same-adds : (x l : Line) → x ≡ l → ((z : ℤ) → sumAfter r n z l ≡ z) → Adds r n x xs xs
-  same-adds x l i e = λ m z h. subst (Holds (suc m) xs) (sym (ap (sumAfter r n z) i ∙ e z)) (holds-later h (omega arith))
+  same-adds x l i e = λ c m z h. subst (Holds c (suc m) xs) (sym (ap (sumAfter r n z) i ∙ e z)) (holds-later h (omega arith))
 
   pub table-adds : (x : Line) (t : point-of.Point) → coded x ≡ Table t → Adds r n x xs xs
   table-adds x t e = let w = was x e in same-adds x (table (w .0)) (w .1) (λ z. refl)
@@ -68,31 +68,31 @@ module _ (r : Two) (n : ℕ) {xs : List ℕ} where
 -- ── line by line ────────────────────────────────────────────────────────────────────────────
 
 -- with the lines `rest` to come, the limbs come to what all lines come to
-pub record Running (r : Two) (first : ℕ) (all : List Line) (at n : ℕ) (rest : List Line) (xs : List ℕ) : Type 0 where
+pub record Running (c : ℕ) (r : Two) (first : ℕ) (all : List Line) (at n : ℕ) (rest : List Line) (xs : List ℕ) : Type 0 where
   z : ℤ
-  pub holds : Holds at xs z
+  pub holds : Holds c at xs z
   comes : total r n z rest ≡ total r first (pos 0) all
 
-pub running-start : (r : Two) (first at : ℕ) (all : List Line) {xs : List ℕ} → Holds 0 xs (pos 0) → Running r first all at first all xs
+pub running-start : {c : ℕ} (r : Two) (first at : ℕ) (all : List Line) {xs : List ℕ} → Holds c 0 xs (pos 0) → Running c r first all at first all xs
 running-start r first at all h = record { z = pos 0; holds = holds-later h (omega arith); comes = refl }
 
-module _ {r : Two} {first : ℕ} {all : List Line} {at n : ℕ} where
+module _ {c : ℕ} {r : Two} {first : ℕ} {all : List Line} {at n : ℕ} where
   -- one line more
   pub running-turn : {l : Line} {here rest : List Line} {next m : ℕ} {xs ys : List ℕ}
-      → Running r first all at n here xs → here ≡ l ∷ rest → Adds r n l xs ys → at < next → m ≡ placesAfter n l → Running r first all next m rest ys
+      → Running c r first all at n here xs → here ≡ l ∷ rest → Adds r n l xs ys → at < next → m ≡ placesAfter n l → Running c r first all next m rest ys
   unfolding total
   running-turn {l} {rest = rest} g e a h f =
       record {
         z = sumAfter r n (g .z) l;
-        holds = holds-later (a at (g .z) (g .holds)) (omega arith);
+        holds = holds-later (a c at (g .z) (g .holds)) (omega arith);
         comes = ap (λ (k : ℕ). total r k (sumAfter r n (g .z) l) rest) f ∙ ap (total r n (g .z)) (sym e) ∙ g .comes;
       }
 
   -- behind the last one
-  pub running-end : {rest : List Line} {xs : List ℕ} → Running r first all at n rest xs → rest ≡ [] → at ≤ most → Holds most xs (total r first (pos 0) all)
+  pub running-end : {rest : List Line} {xs : List ℕ} → Running c r first all at n rest xs → rest ≡ [] → at ≤ most → Holds c most xs (total r first (pos 0) all)
   unfolding total
-  running-end {xs = xs} g e h = subst (Holds most xs) (ap (total r n (g .z)) (sym e) ∙ g .comes) (holds-later (g .holds) h)
+  running-end {xs = xs} g e h = subst (Holds c most xs) (ap (total r n (g .z)) (sym e) ∙ g .comes) (holds-later (g .holds) h)
 
-pub summed : (r : Two) (s : State) (ls : List Line) (out : scan.Scan) {xs : List ℕ} → Holds most xs (total r (s .places) (pos 0) ls) → Summed r s ls out xs
+pub summed : {c : ℕ} (r : Two) (s : State) (ls : List Line) (out : scan.Scan) {xs : List ℕ} → Holds c most xs (total r (s .places) (pos 0) ls) → Summed c r s ls out xs
 summed r s ls (scan.the-variants.Met t) h = h
 summed r s ls (scan.the-variants.Misplaced n) h = tt

@@ -2,11 +2,9 @@ ghost use mathlib.Core.Path.{_≡_};
 ghost use Rattle.sheet.specs.Questions.{windowed};
 ghost use Rattle.lines.specs.Coded.{kindOf};
 ghost use Rattle.survey.specs.Survey.State.{planFor, isOnPlan, claimed};
+use digits::Limits;
 use lines::Header;
 use sheet::Plan;
-
-// The D lines of a sheet at most.
-pub const MOST_DOUBLES: usize = 528;
 
 // The plan that a header names.
 pub fn plan_of(header: Header) -> Plan
@@ -43,8 +41,8 @@ pub fn is_on_plan(header: Header) -> bool
 }
 
 // The D lines that a header claims: its doublings less those of the plan's table; 0 where that is negative or too many.
-pub fn claimed(header: Header) -> usize
-    ensures { λ r. ⌜ r ≡ claimed header ⌝ }
+pub fn claimed(limits: Limits, header: Header) -> usize
+    ensures { λ r. ⌜ r ≡ claimed limits header ⌝ }
 {
     let plan = plan_of(header);
     let tables = plan.table_doublings();
@@ -53,5 +51,9 @@ pub fn claimed(header: Header) -> usize
         return 0;
     }
     let places = (doublings - tables) as usize;
-    if places <= MOST_DOUBLES { places } else { 0 }
+    if places <= limits.doublings {
+        places
+    } else {
+        0
+    }
 }

@@ -1,12 +1,12 @@
 ghost use mathlib.Core.List.{[]};
-ghost use Prim.Native.Nat.{_+_, _≤_};
+ghost use Prim.Native.Nat.{_+_, _*_, _<_, _≤_};
 ghost use lib.IntN.{pos};
 ghost use lib.ListN.{length, drop};
-ghost use Rattle.digits.specs.Limits.{card};
+ghost use Rattle.digits.specs.declared.limits.Limits.{Limits};
 ghost use Rattle.digits.specs.Two.{P, Q};
 ghost use Rattle.sheet.specs.declared.Plan.{Plan};
 ghost use Rattle.sheet.specs.Spelling.{lines};
-ghost use Rattle.survey.specs.Sum.{Holds};
+ghost use Rattle.survey.specs.Sum.{most, Holds};
 ghost use Rattle.survey.specs.Survey.State.{Counted};
 ghost use Rattle.survey.specs.Survey.Scan.{Scanned, Summed};
 use crate::phase::Phase;
@@ -40,11 +40,11 @@ pub fn scan_from(
     p: &mut [u64],
     q: &mut [u64],
 ) -> Scan
-    requires { ⌜ (length (now sheet) ≤ card .sheet) × ((from ≤ length (now sheet)) × (Counted start × (start .line ≤ from + 1))) ⌝ }
-    requires { ⌜ Holds 0 (now p) (pos 0) × Holds 0 (now q) (pos 0) ⌝ }
-    ensures { λ r. ⌜ Scanned plan start (lines card (drop from (now (sheet .entry)))) r ⌝ }
-    ensures { λ r. ⌜ Summed P start (lines card (drop from (now (sheet .entry)))) r (now (p .exit)) ⌝ }
-    ensures { λ r. ⌜ Summed Q start (lines card (drop from (now (sheet .entry)))) r (now (q .exit)) ⌝ }
+    requires { ⌜ (length (now sheet) ≤ most) × ((from ≤ length (now sheet)) × (Counted start × (start .line ≤ from + 1))) ⌝ }
+    requires { ⌜ (start .places < 16 * length (now p)) × (Holds (length (now p)) 0 (now p) (pos 0) × Holds (length (now p)) 0 (now q) (pos 0)) ⌝ }
+    ensures { λ r. ⌜ ((limits : Limits) → 1 ≤ limits .figures → Scanned plan start (lines limits (drop from (now (sheet .entry)))) r) ⌝ }
+    ensures { λ r. ⌜ ((limits : Limits) → 1 ≤ limits .figures → Summed (length (now (p .entry))) P start (lines limits (drop from (now (sheet .entry)))) r (now (p .exit))) ⌝ }
+    ensures { λ r. ⌜ ((limits : Limits) → 1 ≤ limits .figures → Summed (length (now (p .entry))) Q start (lines limits (drop from (now (sheet .entry)))) r (now (q .exit))) ⌝ }
 {
     let mut at = from;
     let mut state = start;

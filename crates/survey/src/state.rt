@@ -12,6 +12,7 @@ use crate::phase::Phase;
 use crate::steps::Doubles;
 use crate::steps::Steps;
 use crate::table::Tables;
+use digits::Limits;
 use lines::Header;
 use lines::Line;
 use lines::Point;
@@ -57,8 +58,8 @@ fn less_one(n: usize) -> usize
 
 impl State {
     // Behind the header.
-    pub fn new(header: Header) -> State
-        ensures { λ r. ⌜ Begins header r ⌝ }
+    pub fn new(limits: Limits, header: Header) -> State
+        ensures { λ r. ⌜ Begins limits header r ⌝ }
     {
         let met = crate::header::is_on_plan(header);
         let fault = Fault::Nowhere.or(met, 1);
@@ -74,12 +75,12 @@ impl State {
                 fault: Fault::Nowhere,
             },
             doubles: Doubles {
-                left: crate::header::MOST_DOUBLES,
+                left: limits.doublings,
                 fault: Fault::Nowhere,
             },
             additions: 0,
             doublings: 0,
-            places: crate::header::claimed(header),
+            places: crate::header::claimed(limits, header),
         }
     }
 

@@ -1,6 +1,6 @@
 ghost use mathlib.Core.Path.{_≡_};
-ghost use Prim.Native.Nat.{_≤_};
-ghost use Rattle.digits.specs.Limits.{card};
+ghost use Prim.Native.Nat.{_*_, _<_};
+ghost use lib.ListN.{length};
 ghost use Rattle.digits.specs.Two.{P, Q};
 ghost use Rattle.sheet.specs.Line as meant;
 ghost use Rattle.lines.specs.Coded.{whole, coded};
@@ -11,7 +11,7 @@ use lines::Point;
 
 // A point, added at its place to the two sums.
 fn add_point(p: &mut [u64], q: &mut [u64], places: usize, t: Point)
-    requires { ⌜ (Roomy (now p) × Roomy (now q)) × (places ≤ card .doublings) ⌝ }
+    requires { ⌜ (Roomy (now p) × Roomy (now q)) × ((places < 16 * length (now p)) × (places < 16 * length (now q))) ⌝ }
     ensures { λ _. ⌜ Added places (whole (t .p)) (now (p .entry)) (now (p .exit)) ⌝ }
     ensures { λ _. ⌜ Added places (whole (t .q)) (now (q .entry)) (now (q .exit)) ⌝ }
 {
@@ -21,7 +21,7 @@ fn add_point(p: &mut [u64], q: &mut [u64], places: usize, t: Point)
 
 // The step of a line, added at its place; other lines add nothing.
 pub fn add_line(p: &mut [u64], q: &mut [u64], places: usize, line: Line)
-    requires { ⌜ (Roomy (now p) × Roomy (now q)) × (places ≤ card .doublings) ⌝ }
+    requires { ⌜ (Roomy (now p) × Roomy (now q)) × ((places < 16 * length (now p)) × (places < 16 * length (now q))) ⌝ }
     ensures { λ _. ⌜ ((x : meant.Line) → line ≡ coded x → Adds P places x (now (p .entry)) (now (p .exit))) ⌝ }
     ensures { λ _. ⌜ ((x : meant.Line) → line ≡ coded x → Adds Q places x (now (q .entry)) (now (q .exit))) ⌝ }
 {

@@ -6,17 +6,18 @@ use mathlib.Core.List.{List, [], _∷_, _++_, map}
 use Prim.Native.Nat.{ℕ, zero, suc, _+_, _-_, _*_, _≤_, _<_, max}
 use native.Mathlib.Omega.{arith}
 use lib.IntN.{ℤ, pos, natAbs}
-use lib.ListN.{length, getD, replicate, List·getD-map}
+use lib.ListN.{length, getD, replicate, List·getD-map, length-append, length-map, length-replicate}
 use borrow.Author.Tests.{le-leb}
-use Rattle.digits.specs.Scalar.Sized.{both, some-bytes}
-use Rattle.digits.specs.Scalar.Signed.{signed-bounded}
+use Rattle.digits.specs.Scalar.Sized.{both}
+use Rattle.digits.specs.Scalar.Signed.{scalar-size, signed-bounded}
+use Rattle.digits.specs.Scalar.Value.{length-bytes}
 use Rattle.digits.specs.Byte.{byteOf}
 use Rattle.digits.specs.Scalar.{Bytes}
 use Rattle.digits.specs.Column.{row, Small}
-use Rattle.digits.specs.Limits.{card}
+use Rattle.digits.specs.Limits.{gateway}
 use Rattle.digits.specs.Row as Rows
 use Rattle.digits.specs.Row.{Digit, Over, isWindow}
-use Rattle.digits.specs.Scalar.{signedScalar, sized}
+use Rattle.digits.specs.Scalar.{signedScalar, sized, bitLength}
 use Rattle.digits.specs.Two.{Column, Two, P, Q, digit, two, blankColumn}
 use Rattle.forms.specs.Joint.{joint}
 use Rattle.forms.specs.Joint.Value.{joint-small}
@@ -30,8 +31,8 @@ use Rattle.sheet.specs.Digits.{weight}
 use Rattle.sheet.specs.Plan.{point}
 use Rattle.sheet.specs.Questions.Planned.{window-of}
 use Rattle.sheet.specs.Sound.{Window}
-use Rattle.written.specs.Written.Columns.{paired-at, paired-length, paired-weight}
-use Rattle.written.specs.Valid.{window-positive}
+use Rattle.written.specs.Written.Columns.{digits-length, paired-at, paired-length, paired-weight}
+use Rattle.written.specs.Valid.{Valid, window-positive}
 use Rattle.written.specs.Written.{digits}
 use Rattle.digits.specs.Byte.{signed}
 use Rattle.writer.specs.Body.Parts.{Holds, Bounded}
@@ -55,19 +56,37 @@ digit-at : (ds : List ℤ) (buffer : List ℕ) (i : ℕ) → natAbs (getD ds i (
 digit-at ds buffer i h =
     ap signed (filled-at ds (length buffer - length ds) i) ∙ signed-byte (getD ds i (pos 0)) h
 
+-- a filled buffer is no shorter than it was
+filled-long : (ds : List ℤ) (buffer : List ℕ) (n : ℕ) → n ≤ length buffer → n ≤ length (filled ds buffer)
+filled-long ds buffer n h =
+    omega (arith, length-append (map byteOf ds) (replicate (length buffer - length ds) 0), length-map ds byteOf, length-replicate {A = ℕ} (length buffer - length ds) 0)
+
 -- ── question 1 and the scalars ──────────────────────────────────────────────────────────────
 
--- a scalar of at most 66 bytes
-pub in-bounds : (s : List ℕ) (sign : ℕ) → Bytes s → sized card s ≡ true → Bounded (signedScalar s sign)
+-- a scalar that is not too wide
+pub in-bounds : (s : List ℕ) (sign : ℕ) → Bytes s → sized gateway s ≡ true → Bounded (signedScalar s sign)
 unfolding Bounded
-in-bounds s sign h e = signed-bounded s sign h e
+in-bounds s sign h e = signed-bounded gateway s sign h e
 
-room-enough : (n : ℕ) → n ≤ 66 → roomy n 529 ≡ true
-room-enough n h = le-leb (8 * n + 1) 529 (omega arith)
+room-enough : (n places : ℕ) → 8 * n + 1 ≤ places → roomy n places ≡ true
+room-enough n places h = le-leb (8 * n + 1) places h
 
 -- the places of a plan's digits, and how many of them the plan counts
 abbrev pub Counts : Plan → ℤ → ℤ → ℕ → ℕ → Type 0
 Counts plan k l places counted = (places ≡ length (digits plan k l)) × (counted ≡ weight plan (digits plan k l))
+
+-- a plan's digits have no more places than the longer scalar has bits, and one
+pub few-places : {plan : Plan} → Valid plan → (k : List ℕ) (k-sign : ℕ) (l : List ℕ) (l-sign : ℕ) → Bytes k → Bytes l → {n : ℕ} → n ≡ length (digits plan (signedScalar k k-sign) (signedScalar l l-sign))
+    → n ≤ 8 * max (length k) (length l) + 1
+few-places {plan} v k k-sign l l-sign k-bytes l-bytes e =
+    let b : ℕ = 8 * max (length k) (length l) in
+    omega (
+      arith,
+      e,
+      digits-length (signedScalar k k-sign) (signedScalar l l-sign) v b
+          (omega (arith, ap bitLength (scalar-size k k-sign), length-bytes k k-bytes))
+          (omega (arith, ap bitLength (scalar-size l l-sign), length-bytes l l-bytes)),
+    )
 
 -- ── the joint form ──────────────────────────────────────────────────────────────────────────
 
@@ -82,22 +101,25 @@ unfolding row
 row-at cs i P = List·getD-map (λ (c : Column). digit c P) cs i blankColumn
 row-at cs i Q = List·getD-map (λ (c : Column). digit c Q) cs i blankColumn
 
-module _ (k : List ℕ) (k-sign : ℕ) (l : List ℕ) (l-sign : ℕ) (sizes : (sized card k && sized card l) ≡ true) where
-  joint-answer : jointAnswer card k k-sign l l-sign 529 529 ≡ wroteColumns (joint (signedScalar k k-sign) (signedScalar l l-sign))
+-- two rows of so many places have room for both scalars
+abbrev pub Rooms : List ℕ → List ℕ → ℕ → ℕ → Type 0
+Rooms k l p-places q-places = (8 * max (length k) (length l) + 1 ≤ p-places) × (8 * max (length k) (length l) + 1 ≤ q-places)
+
+module _ (k : List ℕ) (k-sign : ℕ) (l : List ℕ) (l-sign : ℕ) (p-places q-places : ℕ) (sizes : (sized gateway k && sized gateway l) ≡ true) (rooms : Rooms k l p-places q-places) where
+  joint-answer : jointAnswer gateway k k-sign l l-sign p-places q-places ≡ wroteColumns (joint (signedScalar k k-sign) (signedScalar l l-sign))
   unfolding jointAnswer
   joint-answer =
-      let (a, b) = both (sized card k) (sized card l) sizes in
-      let m : max (length k) (length l) ≤ 66 = omega (arith, some-bytes card k a .1, some-bytes card l b .1) in
-      rw (a, b, room-enough (max (length k) (length l)) m)
+      let m : ℕ = max (length k) (length l) in
+      rw (sizes, room-enough m p-places (rooms .0), room-enough m q-places (rooms .1))
 
   -- the length and the weight that the joint call returns
-  pub joint-counts : {r : Recoded} {places counted : ℕ} → r ≡ jointAnswer card k k-sign l l-sign 529 529 → places ≡ placesWritten r → counted ≡ weightWritten r
+  pub joint-counts : {r : Recoded} {places counted : ℕ} → r ≡ jointAnswer gateway k k-sign l l-sign p-places q-places → places ≡ placesWritten r → counted ≡ weightWritten r
       → Counts J (signedScalar k k-sign) (signedScalar l l-sign) places counted
   unfolding digits
   joint-counts e f g = (f ∙ ap placesWritten (e ∙ joint-answer), g ∙ ap weightWritten (e ∙ joint-answer))
 
-module _ (k : List ℕ) (k-sign : ℕ) (l : List ℕ) (l-sign : ℕ) (p q : List ℕ) (sizes : (sized card k && sized card l) ≡ true) (p-long : length p ≡ 529) (q-long : length q ≡ 529) where
-  buffer-row : (r : Two) (b : List ℕ) → jointBuffer card r k k-sign l l-sign p q ≡ b → (u : List ℕ) → jointBuffer card r k k-sign l l-sign p q ≡ filled (row two r (joint (signedScalar k k-sign) (signedScalar l l-sign))) u
+module _ (k : List ℕ) (k-sign : ℕ) (l : List ℕ) (l-sign : ℕ) (p q : List ℕ) (sizes : (sized gateway k && sized gateway l) ≡ true) (rooms : Rooms k l (length p) (length q)) where
+  buffer-row : (r : Two) (b : List ℕ) → jointBuffer gateway r k k-sign l l-sign p q ≡ b → (u : List ℕ) → jointBuffer gateway r k k-sign l l-sign p q ≡ filled (row two r (joint (signedScalar k k-sign) (signedScalar l l-sign))) u
       → (i : ℕ) → signed (getD b i 0) ≡ digit (getD (joint (signedScalar k k-sign) (signedScalar l l-sign)) i blankColumn) r
   buffer-row r b e u f i =
       let cs : List Column = joint (signedScalar k k-sign) (signedScalar l l-sign) in
@@ -108,19 +130,28 @@ module _ (k : List ℕ) (k-sign : ℕ) (l : List ℕ) (l-sign : ℕ) (p q : List
       small : (r : Two) → natAbs (digit (getD (joint (signedScalar k k-sign) (signedScalar l l-sign)) i blankColumn) r) < 128
       small r = omega (arith, small-at (joint (signedScalar k k-sign) (signedScalar l l-sign)) (joint-small (signedScalar k k-sign) (signedScalar l l-sign)) i r)
 
-  filled-p : jointBuffer card P k k-sign l l-sign p q ≡ filled (row two P (joint (signedScalar k k-sign) (signedScalar l l-sign))) p
+  filled-p : jointBuffer gateway P k k-sign l l-sign p q ≡ filled (row two P (joint (signedScalar k k-sign) (signedScalar l l-sign))) p
   unfolding jointBuffer
-  filled-p = ap (λ (a : Recoded). left a (row two P (joint (signedScalar k k-sign) (signedScalar l l-sign))) p) (ap₂ (jointAnswer card k k-sign l l-sign) p-long q-long ∙ joint-answer k k-sign l l-sign sizes)
+  filled-p = ap (λ (a : Recoded). left a (row two P (joint (signedScalar k k-sign) (signedScalar l l-sign))) p) (joint-answer k k-sign l l-sign (length p) (length q) sizes rooms)
 
-  filled-q : jointBuffer card Q k k-sign l l-sign p q ≡ filled (row two Q (joint (signedScalar k k-sign) (signedScalar l l-sign))) q
+  filled-q : jointBuffer gateway Q k k-sign l l-sign p q ≡ filled (row two Q (joint (signedScalar k k-sign) (signedScalar l l-sign))) q
   unfolding jointBuffer
-  filled-q = ap (λ (a : Recoded). left a (row two Q (joint (signedScalar k k-sign) (signedScalar l l-sign))) q) (ap₂ (jointAnswer card k k-sign l l-sign) p-long q-long ∙ joint-answer k k-sign l l-sign sizes)
+  filled-q = ap (λ (a : Recoded). left a (row two Q (joint (signedScalar k k-sign) (signedScalar l l-sign))) q) (joint-answer k k-sign l l-sign (length p) (length q) sizes rooms)
 
   -- the buffers hold the joint columns
-  pub joint-holds : {p′ q′ : List ℕ} → p′ ≡ jointBuffer card P k k-sign l l-sign p q → q′ ≡ jointBuffer card Q k k-sign l l-sign p q → Holds p′ q′ (digits J (signedScalar k k-sign) (signedScalar l l-sign))
+  pub joint-holds : {p′ q′ : List ℕ} → p′ ≡ jointBuffer gateway P k k-sign l l-sign p q → q′ ≡ jointBuffer gateway Q k k-sign l l-sign p q → Holds p′ q′ (digits J (signedScalar k k-sign) (signedScalar l l-sign))
   unfolding digits
   joint-holds {p′} {q′} e f =
       record { columns = λ i. ap₂ point (buffer-row P p′ (sym e) p filled-p i) (buffer-row Q q′ (sym f) q filled-q i) }
+
+  -- and are as long as before
+  pub joint-long : {p′ q′ : List ℕ} → p′ ≡ jointBuffer gateway P k k-sign l l-sign p q → q′ ≡ jointBuffer gateway Q k k-sign l l-sign p q
+      → {n : ℕ} → n ≤ 8 * max (length k) (length l) + 1 → (n ≤ length p′) × (n ≤ length q′)
+  joint-long e f {n} h =
+      let cs : List Column = joint (signedScalar k k-sign) (signedScalar l l-sign) in (
+        subst (λ (x : List ℕ). n ≤ length x) (sym (e ∙ filled-p)) (filled-long (row two P cs) p n (omega (arith, rooms .0))),
+        subst (λ (x : List ℕ). n ≤ length x) (sym (f ∙ filled-q)) (filled-long (row two Q cs) q n (omega (arith, rooms .1))),
+      )
 
 -- ── two rows ────────────────────────────────────────────────────────────────────────────────
 
@@ -133,51 +164,67 @@ over-at [] o i = omega arith
 over-at (d ∷ ds) (Over.more x o) zero = digit-small x
 over-at (d ∷ ds) (Over.more x o) (suc i) = over-at ds o i
 
-module _ (s : List ℕ) (sign m : ℕ) (size : sized card s ≡ true) (window : isWindow m ≡ true) where
-  row-answer : rowAnswer card s sign m 529 ≡ wroteRow (Row.row m (signedScalar s sign))
-  unfolding rowAnswer
-  row-answer = rw (size, window, room-enough (length s) (some-bytes card s size .1))
+first-room : (k l : List ℕ) {places : ℕ} → 8 * max (length k) (length l) + 1 ≤ places → 8 * length k + 1 ≤ places
+first-room k l h = omega arith
 
-  row-counts : {r : Recoded} → r ≡ rowAnswer card s sign m 529
+second-room : (k l : List ℕ) {places : ℕ} → 8 * max (length k) (length l) + 1 ≤ places → 8 * length l + 1 ≤ places
+second-room k l h = omega arith
+
+module _ (s : List ℕ) (sign m places : ℕ) (size : sized gateway s ≡ true) (window : isWindow m ≡ true) (room : 8 * length s + 1 ≤ places) where
+  row-answer : rowAnswer gateway s sign m places ≡ wroteRow (Row.row m (signedScalar s sign))
+  unfolding rowAnswer
+  row-answer = rw (size, window, room-enough (length s) places room)
+
+  row-counts : {r : Recoded} → r ≡ rowAnswer gateway s sign m places
       → (placesWritten r ≡ length (Row.row m (signedScalar s sign))) × (weightWritten r ≡ Rows.weight (Row.row m (signedScalar s sign)))
   row-counts e = (ap placesWritten (e ∙ row-answer), ap weightWritten (e ∙ row-answer))
 
-module _ (s : List ℕ) (sign m : ℕ) (b : List ℕ) (size : sized card s ≡ true) (window : isWindow m ≡ true) (long : length b ≡ 529) where
-  row-filled : rowBuffer card s sign m b ≡ filled (Row.row m (signedScalar s sign)) b
+module _ (s : List ℕ) (sign m : ℕ) (b : List ℕ) (size : sized gateway s ≡ true) (window : isWindow m ≡ true) (room : 8 * length s + 1 ≤ length b) where
+  row-filled : rowBuffer gateway s sign m b ≡ filled (Row.row m (signedScalar s sign)) b
   unfolding rowBuffer
-  row-filled = ap (λ (a : Recoded). left a (Row.row m (signedScalar s sign)) b) (ap (rowAnswer card s sign m) long ∙ row-answer s sign m size window)
+  row-filled = ap (λ (a : Recoded). left a (Row.row m (signedScalar s sign)) b) (row-answer s sign m (length b) size window room)
 
-  row-digit : {b′ : List ℕ} → b′ ≡ rowBuffer card s sign m b → (i : ℕ) → signed (getD b′ i 0) ≡ getD (Row.row m (signedScalar s sign)) i (pos 0)
+  row-digit : {b′ : List ℕ} → b′ ≡ rowBuffer gateway s sign m b → (i : ℕ) → signed (getD b′ i 0) ≡ getD (Row.row m (signedScalar s sign)) i (pos 0)
   row-digit {b′} e i =
       let w : Window m = window-of m window in
       let ds : List ℤ = Row.row m (signedScalar s sign) in
       ap (λ (x : List ℕ). signed (getD x i 0)) (e ∙ row-filled)
       ∙ digit-at ds b i (omega (arith, over-at ds (row-digits m (signedScalar s sign) (window-positive w)) i, w .within))
 
-module _ (k : List ℕ) (k-sign : ℕ) (l : List ℕ) (l-sign : ℕ) (m1 m2 : ℕ) (sizes : (sized card k && sized card l) ≡ true) (windows : (isWindow m1 && isWindow m2) ≡ true) where
+module _ (k : List ℕ) (k-sign : ℕ) (l : List ℕ) (l-sign : ℕ) (m1 m2 p-places q-places : ℕ) (sizes : (sized gateway k && sized gateway l) ≡ true) (windows : (isWindow m1 && isWindow m2) ≡ true) (rooms : Rooms k l p-places q-places) where
   -- the longer of the two lengths, and the weights together
-  pub rows-counts : {r s : Recoded} {places counted : ℕ} → r ≡ rowAnswer card k k-sign m1 529 → s ≡ rowAnswer card l l-sign m2 529
+  pub rows-counts : {r s : Recoded} {places counted : ℕ} → r ≡ rowAnswer gateway k k-sign m1 p-places → s ≡ rowAnswer gateway l l-sign m2 q-places
       → places ≡ max (placesWritten r) (placesWritten s) → counted ≡ weightWritten r + weightWritten s → Counts (I m1 m2) (signedScalar k k-sign) (signedScalar l l-sign) places counted
   unfolding digits
   rows-counts e f g h =
-      let (u, v) = both (sized card k) (sized card l) sizes in
+      let (u, v) = both (sized gateway k) (sized gateway l) sizes in
       let (w, y) = both (isWindow m1) (isWindow m2) windows in
-      let first = row-counts k k-sign m1 u w e in
-      let second = row-counts l l-sign m2 v y f in
+      let first = row-counts k k-sign m1 p-places u w (first-room k l (rooms .0)) e in
+      let second = row-counts l l-sign m2 q-places v y (second-room k l (rooms .1)) f in
       let heavy = paired-weight (Row.row m1 (signedScalar k k-sign)) (Row.row m2 (signedScalar l l-sign)) in (
         g ∙ ap₂ max (first .0) (second .0) ∙ sym (paired-length (Row.row m1 (signedScalar k k-sign)) (Row.row m2 (signedScalar l l-sign))),
         h ∙ ap₂ (λ (a b : ℕ). a + b) (first .1 ∙ sym (heavy .0)) (second .1 ∙ sym (heavy .1)),
       )
 
-module _ (k : List ℕ) (k-sign : ℕ) (l : List ℕ) (l-sign : ℕ) (p q : List ℕ) (m1 m2 : ℕ) (sizes : (sized card k && sized card l) ≡ true) (windows : (isWindow m1 && isWindow m2) ≡ true) (p-long : length p ≡ 529) (q-long : length q ≡ 529) where
+module _ (k : List ℕ) (k-sign : ℕ) (l : List ℕ) (l-sign : ℕ) (p q : List ℕ) (m1 m2 : ℕ) (sizes : (sized gateway k && sized gateway l) ≡ true) (windows : (isWindow m1 && isWindow m2) ≡ true) (rooms : Rooms k l (length p) (length q)) where
   -- the buffers hold the two rows
-  pub rows-hold : {p′ q′ : List ℕ} → p′ ≡ rowBuffer card k k-sign m1 p → q′ ≡ rowBuffer card l l-sign m2 q → Holds p′ q′ (digits (I m1 m2) (signedScalar k k-sign) (signedScalar l l-sign))
+  pub rows-hold : {p′ q′ : List ℕ} → p′ ≡ rowBuffer gateway k k-sign m1 p → q′ ≡ rowBuffer gateway l l-sign m2 q → Holds p′ q′ (digits (I m1 m2) (signedScalar k k-sign) (signedScalar l l-sign))
   unfolding digits
   rows-hold e f =
-      let (u, v) = both (sized card k) (sized card l) sizes in
+      let (u, v) = both (sized gateway k) (sized gateway l) sizes in
       let (w, y) = both (isWindow m1) (isWindow m2) windows in
       record {
         columns = λ i.
-            ap₂ point (row-digit k k-sign m1 p u w p-long e i) (row-digit l l-sign m2 q v y q-long f i)
+            ap₂ point (row-digit k k-sign m1 p u w (first-room k l (rooms .0)) e i) (row-digit l l-sign m2 q v y (second-room k l (rooms .1)) f i)
             ∙ sym (paired-at (Row.row m1 (signedScalar k k-sign)) (Row.row m2 (signedScalar l l-sign)) i);
       }
+
+  -- and are as long as before
+  pub rows-long : {p′ q′ : List ℕ} → p′ ≡ rowBuffer gateway k k-sign m1 p → q′ ≡ rowBuffer gateway l l-sign m2 q
+      → {n : ℕ} → n ≤ 8 * max (length k) (length l) + 1 → (n ≤ length p′) × (n ≤ length q′)
+  rows-long e f {n} h =
+      let (u, v) = both (sized gateway k) (sized gateway l) sizes in
+      let (w, y) = both (isWindow m1) (isWindow m2) windows in (
+        subst (λ (x : List ℕ). n ≤ length x) (sym (e ∙ row-filled k k-sign m1 p u w (first-room k l (rooms .0)))) (filled-long (Row.row m1 (signedScalar k k-sign)) p n (omega (arith, rooms .0))),
+        subst (λ (x : List ℕ). n ≤ length x) (sym (f ∙ row-filled l l-sign m2 q v y (second-room k l (rooms .1)))) (filled-long (Row.row m2 (signedScalar l l-sign)) q n (omega (arith, rooms .1))),
+      )

@@ -3,12 +3,12 @@ use mathlib.Core.Path.{_≡_, refl, sym, ap, ap₂, subst, _∙_}
 use mathlib.Core.Bool.{not}
 use mathlib.Core.List.{List, [], _∷_, _++_, map, reverse, reverse-append, append-assoc}
 use Prim.Native.Nat.{ℕ, zero, suc, _+_, _-_, _≤_}
-use native.Mathlib.Nat.{le-trans}
 use native.Mathlib.Omega.{arith}
 use lib.Dec.{T}
 use lib.IntN.{ℤ}
 use lib.ListN.{length, getD, take}
 use lib.Seq.{take-suc, take-length}
+use Rattle.digits.specs.Limits.{gateway}
 use Rattle.digits.specs.Two.{Column, blank, blankColumn}
 use Rattle.forms.specs.Joint.{Topped}
 use Rattle.sheet.specs.declared.Largest.{Largest}
@@ -19,7 +19,8 @@ use Rattle.sheet.specs.Numeral.{numeral}
 use Rattle.sheet.specs.Plan.{Point, slots, tables, tableAdditions, tableDoublings, largest}
 use Rattle.sheet.specs.Sound.{Steps, stepLines, sheetLines}
 use Rattle.sheet.specs.Spelling.{comma, lineFeed, scalar, kind, join, spell}
-use Rattle.written.specs.Promise.{written-fits, written-cost, written-few, written-places, written-header, written-doublings}
+use Rattle.written.specs.Enough.{gateway-enough}
+use Rattle.written.specs.Promise.{written-cost, written-few, written-places, written-header, written-doublings}
 use Rattle.written.specs.Written.Lengths.{spell-append}
 use Rattle.written.specs.Written.Columns.{digits-top}
 use Rattle.written.specs.Written.{digits, kindOf, first, second, heading, stepsDown, stepsOf, writtenAdditions, writtenDoublings, written}
@@ -108,9 +109,9 @@ module _ {plan : Plan} {k l : ℤ} {p q : List ℕ} {places counted : ℕ} {out 
   all-below : columnsDown p q places ≡ reverse (digits plan k l)
   all-below = ap (columnsDown p q) (g .long) ∙ columns-below p q (digits plan k l) (g .held)
 
-  pub few-places : places ≤ 529
+  pub few-places : places ≤ 1025
   unfolding Bounded
-  few-places = subst (λ (n : ℕ). n ≤ 529) (sym (g .long)) (written-places plan k l (g .valid) (g .k-bounded) (g .l-bounded))
+  few-places = subst (λ (n : ℕ). n ≤ 1025) (sym (g .long)) (written-places gateway gateway-enough plan k l (g .valid) (g .k-bounded) (g .l-bounded))
 
   pub top-full : (top : ℕ) → places ≡ suc top → T (not (blank (columnAt p q top)))
   top-full top e = top-held p q (digits plan k l) (g .held) (digits-top k l (g .valid)) top (sym (g .long) ∙ e)
@@ -120,9 +121,9 @@ module _ {plan : Plan} {k l : ℤ} {p q : List ℕ} {places counted : ℕ} {out 
   cost = ap (λ (n : ℕ). tableAdditions plan + (n - 1)) (g .heavy) ∙ sym (written-cost plan k l (g .valid))
 
   -- so the plan counts few
-  pub few-counted : tableAdditions plan + (counted - 1) ≤ 1088
+  pub few-counted : tableAdditions plan + (counted - 1) ≤ 2080
   unfolding Bounded
-  few-counted = omega (arith, cost, written-few plan k l (g .valid) (g .k-bounded) (g .l-bounded))
+  few-counted = omega (arith, cost, written-few gateway gateway-enough plan k l (g .valid) (g .k-bounded) (g .l-bounded))
 
   -- what is added up are the additions and the doublings of the sheet
   pub additions-are : (t r : ℕ) → t ≡ tableAdditions plan → r ≡ counted - 1 → t + r ≡ writtenAdditions plan k l
@@ -139,7 +140,3 @@ module _ {plan : Plan} {k l : ℤ} {p q : List ℕ} {places counted : ℕ} {out 
       ap spell (written-header plan k l)
       ∙ sheet-bytes (heading plan (writtenAdditions plan k l) (writtenDoublings plan k l) k l) (tables plan) (stepsDown plan (reverse (digits plan k l)))
       ∙ sym (ap₂ (λ (x : Header) (cs : List Column). headerBytes x ++ (spell (map table (tables plan)) ++ (spell (stepLines (stepsDown plan cs)) ++ (69 ∷ lineFeed ∷ [])))) (ap₂ (λ (x y : ℕ). heading plan x y k l) e f) all-below)
-
-  pub fits-buffer : length (written plan k l) ≤ length out
-  unfolding Bounded
-  fits-buffer = le-trans (written-fits plan k l (g .valid) (g .k-bounded) (g .l-bounded)) (g .room)

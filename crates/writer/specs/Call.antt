@@ -9,7 +9,7 @@ use Prim.Native.Nat.{ℕ}
 use lib.Dec.{leb}
 use lib.IntN.{ℤ}
 use lib.ListN.{length, take, drop}
-use Rattle.digits.specs.Limits.{Limits, card}
+use Rattle.digits.specs.declared.limits.Limits.{Limits}
 use Rattle.digits.specs.Missed.{missed}
 use Rattle.digits.specs.Row.{isWindow}
 use Rattle.digits.specs.Scalar.{signedScalar, sized}
@@ -45,7 +45,7 @@ additions NoRoom = 0
 additions BadLimit = 0
 additions (Written n a) = a
 
--- 3. has the sheet buffer at least 16,384 bytes?
+-- 3. has the sheet buffer as many bytes as a sheet may have?
 abbrev pub roomy : Limits → ℕ → Bool
 roomy limits room = leb (limits .sheet) room
 
@@ -62,18 +62,18 @@ left BadLimit s buffer = buffer
 left (Written n a) s buffer = s ++ drop (length s) buffer
 
 -- the sheet s of a plan is accepted for k and l, and a are its additions
-pub record Promised (p : Plan) (k l : ℤ) (a : ℕ) (s : List ℕ) : Type 0 where
-  pub accepted : Accepted card s k l
-  pub additions-are : sheetAdditions card s ≡ a
-  pub slots-are : sheetSlots card s ≡ slots p
+pub record Promised (limits : Limits) (p : Plan) (k l : ℤ) (a : ℕ) (s : List ℕ) : Type 0 where
+  pub accepted : Accepted limits s k l
+  pub additions-are : sheetAdditions limits s ≡ a
+  pub slots-are : sheetSlots limits s ≡ slots p
 
 -- where n bytes were written, they are such a sheet
-abbrev pub SheetPromised : Plan → ℤ → ℤ → Sheet → List ℕ → Type 0
-SheetPromised p k l BadScalar buffer = Unit {0}
-SheetPromised p k l BadWindow buffer = Unit {0}
-SheetPromised p k l NoRoom buffer = Unit {0}
-SheetPromised p k l BadLimit buffer = Unit {0}
-SheetPromised p k l (Written n a) buffer = Promised p k l a (take n buffer)
+abbrev pub SheetPromised : Limits → Plan → ℤ → ℤ → Sheet → List ℕ → Type 0
+SheetPromised limits p k l BadScalar buffer = Unit {0}
+SheetPromised limits p k l BadWindow buffer = Unit {0}
+SheetPromised limits p k l NoRoom buffer = Unit {0}
+SheetPromised limits p k l BadLimit buffer = Unit {0}
+SheetPromised limits p k l (Written n a) buffer = Promised limits p k l a (take n buffer)
 
 -- ── plan J ──────────────────────────────────────────────────────────────────────────────────
 

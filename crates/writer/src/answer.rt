@@ -3,11 +3,11 @@ ghost use Rattle.writer.specs.Call.{number, bytesWritten, additions};
 
 // What a call for a sheet answers: the question missed, or what was written.
 pub enum Sheet {
-    // Question 1: a scalar has 1 to 66 bytes.
+    // Question 1: a scalar has a byte, and no more than the limits allow.
     BadScalar,
     // Question 2: a window is odd, 1 to 31.
     BadWindow,
-    // Question 3: the sheet buffer has at least 16,384 bytes.
+    // Question 3: the sheet buffer has as many bytes as a sheet may have.
     NoRoom,
     // Question 4, which only the call for the cheapest sheet asks: a limit of slots is at most 31.
     BadLimit,

@@ -10,5 +10,7 @@ mod write;
 
 pub use answer::Sheet;
 pub use header::letter_of;
+pub use plans::gateway_plan_i;
+pub use plans::gateway_plan_j;
 pub use plans::plan_i;
 pub use plans::plan_j;

@@ -4,6 +4,7 @@ ghost use mathlib.Core.List.{_∷_, [], _++_};
 ghost use Prim.Native.Nat.{suc, _<_, _≤_};
 ghost use lib.Dec.{T};
 ghost use lib.IntN.{pos};
+ghost use lib.ListN.{length};
 ghost use Rattle.digits.specs.Two;
 ghost use Rattle.sheet.specs.Plan.{point};
 ghost use Rattle.sheet.specs.Sound.{moveLines, stepLines};
@@ -11,7 +12,6 @@ ghost use Rattle.sheet.specs.Spelling.{lineFeed, spell};
 ghost use Rattle.written.specs.Written.{unlessZero, placeSteps, movesOf, stepsDown};
 ghost use Rattle.digits.specs.Byte.{signed};
 ghost use Rattle.writer.specs.Body.Parts.{Put, Room, stepsBytes, columnAt, columnsDown};
-use crate::write::PLACES;
 use sheet::Plan;
 
 // Whether both digits are 0.
@@ -74,15 +74,8 @@ pub fn put_letter(out: &mut [u8], at: usize, letter: u8) -> usize
 }
 
 // The places below the top, from the highest down: a D line, and the place's steps.
-fn put_moves(
-    out: &mut [u8],
-    at: usize,
-    plan: Plan,
-    p: &[u8; PLACES],
-    q: &[u8; PLACES],
-    top: usize,
-) -> usize
-    requires { ⌜ (top ≤ 529) × Room (now out) at (spell (moveLines (movesOf plan (columnsDown (now p) (now q) top)))) ⌝ }
+fn put_moves(out: &mut [u8], at: usize, plan: Plan, p: &[u8], q: &[u8], top: usize) -> usize
+    requires { ⌜ ((top ≤ length (now p)) × (top ≤ length (now q))) × Room (now out) at (spell (moveLines (movesOf plan (columnsDown (now p) (now q) top)))) ⌝ }
     ensures { λ r. ⌜ Put (now (out .entry)) (now (out .exit)) at r (spell (moveLines (movesOf plan (columnsDown (now (p .entry)) (now (q .entry)) top)))) ⌝ }
 {
     let mut next = at;
@@ -97,15 +90,8 @@ fn put_moves(
 }
 
 // All steps, from the place `top`, whose first step is the load.
-pub fn put_all(
-    out: &mut [u8],
-    at: usize,
-    plan: Plan,
-    p: &[u8; PLACES],
-    q: &[u8; PLACES],
-    top: usize,
-) -> usize
-    requires { ⌜ ((top < 529) × T (not (Two.blank (columnAt (now p) (now q) top)))) × Room (now out) at (spell (stepLines (stepsDown plan (columnsDown (now p) (now q) (suc top))))) ⌝ }
+pub fn put_all(out: &mut [u8], at: usize, plan: Plan, p: &[u8], q: &[u8], top: usize) -> usize
+    requires { ⌜ (((top < length (now p)) × (top < length (now q))) × T (not (Two.blank (columnAt (now p) (now q) top)))) × Room (now out) at (spell (stepLines (stepsDown plan (columnsDown (now p) (now q) (suc top))))) ⌝ }
     ensures { λ r. ⌜ Put (now (out .entry)) (now (out .exit)) at r (spell (stepLines (stepsDown plan (columnsDown (now (p .entry)) (now (q .entry)) (suc top))))) ⌝ }
 {
     let next = put_steps(out, at, plan, b'L', p[top], q[top]);

@@ -13,9 +13,6 @@ ghost use Rattle.writer.specs.Body.Parts.{Put, Room, columnAt, columnsDo
 use crate::answer::Sheet;
 use sheet::Plan;
 
-// The most places of a scalar's digits.
-pub const PLACES: usize = 529;
-
 // One less, or 0.
 fn less_one(n: u32) -> u32
     ensures { λ r. ⌜ r ≡ n - 1 ⌝ }
@@ -27,15 +24,8 @@ fn less_one(n: u32) -> u32
 }
 
 // The steps of all places, or nothing where there is no place.
-fn put_places(
-    out: &mut [u8],
-    at: usize,
-    plan: Plan,
-    p: &[u8; PLACES],
-    q: &[u8; PLACES],
-    places: usize,
-) -> usize
-    requires { ⌜ (places ≤ 529) × ((top : ℕ) → places ≡ suc top → T (not (blank (columnAt (now p) (now q) top)))) ⌝ }
+fn put_places(out: &mut [u8], at: usize, plan: Plan, p: &[u8], q: &[u8], places: usize) -> usize
+    requires { ⌜ ((places ≤ length (now p)) × (places ≤ length (now q))) × ((top : ℕ) → places ≡ suc top → T (not (blank (columnAt (now p) (now q) top)))) ⌝ }
     requires { ⌜ Room (now out) at (spell (stepLines (stepsDown plan (columnsDown (now p) (now q) places)))) ⌝ }
     ensures { λ r. ⌜ Put (now (out .entry)) (now (out .exit)) at r (spell (stepLines (stepsDown plan (columnsDown (now (p .entry)) (now (q .entry)) places)))) ⌝ }
 {
@@ -54,8 +44,8 @@ pub fn write_sheet(
     k_sign: u32,
     l: &[u8],
     l_sign: u32,
-    p: &[u8; PLACES],
-    q: &[u8; PLACES],
+    p: &[u8],
+    q: &[u8],
     places: usize,
     weight: usize,
 ) -> Sheet

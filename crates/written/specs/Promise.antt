@@ -1,9 +1,11 @@
--- What is promised of the sheet written for a plan and two signed scalars, in one place; the proofs are in Written/Accepted.
+-- What is promised of the sheet written for a plan and two signed scalars, under any limits that are enough for them, in one place; the
+-- proofs are in Written/Accepted.
 use mathlib.Core.Path.{_≡_}
-use Prim.Native.Nat.{_+_, _-_, _^_, _≤_, _<_}
+use Prim.Native.Nat.{_+_, _-_, _*_, _^_, _≤_, _<_}
 use lib.IntN.{ℤ, pos, natAbs}
 use lib.ListN.{length}
-use Rattle.digits.specs.Limits.{card}
+use Rattle.digits.specs.declared.limits.Limits.{Limits}
+use Rattle.digits.specs.Limits.{bits}
 use Rattle.sheet.specs.declared.Plan.{Plan}
 use Rattle.sheet.specs.Answer as Answer
 use Rattle.sheet.specs.Answer.{Accepted, sheetSlots, sheetAdditions}
@@ -11,9 +13,9 @@ use Rattle.sheet.specs.Digits.{columns, weight}
 use Rattle.sheet.specs.Line.{plan}
 use Rattle.sheet.specs.Plan.{slots, tableAdditions, tableDoublings}
 use Rattle.sheet.specs.Spelling.{lines}
+use Rattle.written.specs.Enough.{Enough}
 use Rattle.written.specs.Written.{digits, linesWith, writtenLines, writtenAdditions, writtenDoublings, written}
 use Rattle.written.specs.Written.Accepted as Within
-use Rattle.written.specs.Written.Accepted.{card-enough}
 use Rattle.written.specs.Valid.{Valid}
 
 -- its header states the counts of its lines
@@ -28,35 +30,6 @@ written-columns = Within.written-columns
 pub written-doublings : (p : Plan) (k l : ℤ) → Valid p → writtenDoublings p k l ≡ tableDoublings p + (length (digits p k l) - 1)
 written-doublings = Within.written-doublings
 
--- every written sheet is accepted for its scalars
-pub written-accepted : (p : Plan) (k l : ℤ) → Valid p → natAbs k < 2 ^ 528 → natAbs l < 2 ^ 528 → Accepted card (written p k l) k l
-written-accepted p k l v h g = Within.accepted-within p k l v card 528 card-enough h g
-
--- it is never longer than 16,384 bytes
-pub written-fits : (p : Plan) (k l : ℤ) → Valid p → natAbs k < 2 ^ 528 → natAbs l < 2 ^ 528 → length (written p k l) ≤ 16384
-written-fits p k l v h g = Within.fits-within p k l v card 528 card-enough h g
-
--- its lines are the written lines
-pub written-lines : (p : Plan) (k l : ℤ) → Valid p → natAbs k < 2 ^ 528 → natAbs l < 2 ^ 528 → lines card (written p k l) ≡ writtenLines p k l
-written-lines p k l v h g = Within.lines-within p k l v card 528 card-enough h g
-
--- its plan is the plan
-pub written-plan : (p : Plan) (k l : ℤ) → Valid p → natAbs k < 2 ^ 528 → natAbs l < 2 ^ 528 → plan (Answer.heading (lines card (written p k l))) ≡ p
-written-plan p k l v h g = Within.plan-within p k l v card 528 card-enough h g
-
--- its slots are those of its plan
-pub written-slots : (p : Plan) (k l : ℤ) → Valid p → natAbs k < 2 ^ 528 → natAbs l < 2 ^ 528 → sheetSlots card (written p k l) ≡ slots p
-written-slots p k l v h g = Within.slots-within p k l v card 528 card-enough h g
-
--- its additions are those of the written lines
-pub written-counted : (p : Plan) (k l : ℤ) → Valid p → natAbs k < 2 ^ 528 → natAbs l < 2 ^ 528 → sheetAdditions card (written p k l) ≡ writtenAdditions p k l
-written-counted p k l v h g = Within.additions-within p k l v card 528 card-enough h g
-
--- its header states its doublings
-pub written-doubled : (p : Plan) (k l : ℤ) → Valid p → natAbs k < 2 ^ 528 → natAbs l < 2 ^ 528
-    → Answer.heading (lines card (written p k l)) .doublings ≡ writtenDoublings p k l
-written-doubled p k l v h g = Within.doubled-within p k l v card 528 card-enough h g
-
 -- its additions: those of the table, and one for each digit that the plan counts but the first
 pub written-cost : (p : Plan) (k l : ℤ) → Valid p → writtenAdditions p k l ≡ tableAdditions p + (weight p (digits p k l) - 1)
 written-cost = Within.written-cost
@@ -66,10 +39,40 @@ pub written-signs : (p : Plan) (k l : ℤ) → Valid p
     → (writtenAdditions p k l ≡ writtenAdditions p (pos (natAbs k)) (pos (natAbs l))) × (writtenDoublings p k l ≡ writtenDoublings p (pos (natAbs k)) (pos (natAbs l)))
 written-signs = Within.written-signs
 
--- there are at most 1,088 of the additions
-pub written-few : (p : Plan) (k l : ℤ) → Valid p → natAbs k < 2 ^ 528 → natAbs l < 2 ^ 528 → writtenAdditions p k l ≤ 1088
-written-few p k l v h g = Within.few-within p k l v card 528 card-enough h g
+-- for scalars of no more bits than the limits allow:
+module _ (limits : Limits) (enough : Enough limits) (p : Plan) (k l : ℤ) (v : Valid p) (k-fits : natAbs k < 2 ^ bits limits) (l-fits : natAbs l < 2 ^ bits limits) where
+  -- every written sheet is accepted for its scalars
+  pub written-accepted : Accepted limits (written p k l) k l
+  written-accepted = Within.accepted-within p k l v limits enough k-fits l-fits
 
--- its digits have at most 529 places
-pub written-places : (p : Plan) (k l : ℤ) → Valid p → natAbs k < 2 ^ 528 → natAbs l < 2 ^ 528 → length (digits p k l) ≤ 529
-written-places p k l v h g = Within.places p k l v card 528 card-enough h g
+  -- it is never longer than a sheet may be
+  pub written-fits : length (written p k l) ≤ limits .sheet
+  written-fits = Within.fits-within p k l v limits enough k-fits l-fits
+
+  -- its lines are the written lines
+  pub written-lines : lines limits (written p k l) ≡ writtenLines p k l
+  written-lines = Within.lines-within p k l v limits enough k-fits l-fits
+
+  -- its plan is the plan
+  pub written-plan : plan (Answer.heading (lines limits (written p k l))) ≡ p
+  written-plan = Within.plan-within p k l v limits enough k-fits l-fits
+
+  -- its slots are those of its plan
+  pub written-slots : sheetSlots limits (written p k l) ≡ slots p
+  written-slots = Within.slots-within p k l v limits enough k-fits l-fits
+
+  -- its additions are those of the written lines
+  pub written-counted : sheetAdditions limits (written p k l) ≡ writtenAdditions p k l
+  written-counted = Within.additions-within p k l v limits enough k-fits l-fits
+
+  -- its header states its doublings
+  pub written-doubled : Answer.heading (lines limits (written p k l)) .doublings ≡ writtenDoublings p k l
+  written-doubled = Within.doubled-within p k l v limits enough k-fits l-fits
+
+  -- there are at most two of the additions for each bit, and 32
+  pub written-few : writtenAdditions p k l ≤ 2 * bits limits + 32
+  written-few = Within.few-within p k l v limits enough k-fits l-fits
+
+  -- its digits have at most one place more than the bits
+  pub written-places : length (digits p k l) ≤ bits limits + 1
+  written-places = Within.places p k l v limits enough k-fits l-fits

@@ -94,14 +94,14 @@ mod tests {
     use super::*;
     use crate::big::Big;
     use crate::calls::parse;
+    use crate::limits::Limits;
     use crate::plan::Plan;
-    use crate::reader::LONGEST_SHEET;
     use crate::scalars;
 
-    /// The code of the reference's answer to the call that these words print.
+    /// The code of the reference's answer to the call that these words print, at the card.
     fn code(call: &str) -> u64 {
         let words: Vec<&str> = call.split(' ').collect();
-        parse(&words).expect("a call").answer().code()
+        parse(&words).expect("a call").answer(Limits::Card).code()
     }
 
     #[test]
@@ -155,24 +155,30 @@ mod tests {
 
     /// A row and a joint form with as many digits and columns that are not zero as the rules allow,
     /// sheets of every plan, and the longest sheet with the most additions that a header can state.
-    #[test]
-    fn every_part_has_room_for_the_largest_answers() {
-        let dense = Big::from_bytes(&scalars::dense());
-        assert_eq!(Answer::Row(row::recode(dense, 1)).code(), 265 << 16 | 529);
-        let (k, l) = scalars::dense_pair();
+    fn every_part_has_room(limits: Limits, row: (usize, usize), joint: (usize, usize)) {
+        let code = |(weight, length): (usize, usize)| (weight << 16 | length) as u64;
+        let dense = Big::from_bytes(&scalars::dense(limits));
+        assert_eq!(Answer::Row(row::recode(dense, 1)).code(), code(row));
+        let (k, l) = scalars::dense_pair(limits);
         let columns = joint::recode(Big::from_bytes(&k), Big::from_bytes(&l));
         let (k_row, l_row) = joint::rows(&columns);
-        assert_eq!(Answer::Columns(k_row, l_row).code(), 352 << 16 | 527);
+        assert_eq!(Answer::Columns(k_row, l_row).code(), code(joint));
         for plan in Plan::all() {
             for scalar in [dense, dense.negated()] {
                 let sheet = Sheet::of_plan(plan, scalar, scalar);
                 let (length, additions) = (sheet.to_bytes().len(), sheet.additions());
-                assert!(length <= LONGEST_SHEET && additions <= 529);
-                assert_eq!(Answer::sheet(&sheet).code(), (additions << 16 | length) as u64);
+                assert!(length <= limits.sheet() && additions <= limits.places());
+                assert_eq!(Answer::sheet(&sheet).code(), code((additions, length)));
             }
         }
-        let longest = Answer::Sheet { bytes: vec![b'D'; LONGEST_SHEET], additions: 9_999 };
-        assert_eq!(longest.code(), 9_999 << 16 | 16_384);
+        let longest = Answer::Sheet { bytes: vec![b'D'; limits.sheet()], additions: 9_999 };
+        assert_eq!(longest.code(), code((9_999, limits.sheet())));
+    }
+
+    #[test]
+    fn every_part_has_room_for_the_largest_answers() {
+        every_part_has_room(Limits::Card, (265, 529), (352, 527));
+        every_part_has_room(Limits::Gateway, (513, 1_025), (683, 1_024));
     }
 
     #[test]

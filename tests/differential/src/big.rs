@@ -1,9 +1,9 @@
-//! Signed whole numbers of 640 bits in two's complement: room for every scalar (528 bits), every
-//! remainder of a recoding, and every accumulator that 528 doublings can reach.
+//! Signed whole numbers of 1,152 bits in two's complement: room for every scalar (1,024 bits), every
+//! remainder of a recoding, and every accumulator that 1,024 doublings can reach.
 
 use std::fmt;
 
-const WORDS: usize = 10;
+const WORDS: usize = 18;
 
 /// A number; the least significant word is first.
 #[derive(Clone, Copy, PartialEq, Eq)]
@@ -88,22 +88,30 @@ impl Big {
         self.plus_at(small, 0)
     }
 
-    /// This number and small × 2^(64 × at).
+    /// This number and small × 2^(64 × at). Above its word a negative one is all ones, which with a
+    /// carry change nothing, and without one take 1 off.
     #[must_use]
     pub fn plus_at(self, small: i64, at: usize) -> Big {
-        self.sum_at(Big::from(small), at)
+        let Big(mut words) = self;
+        let negative = small < 0;
+        let (sum, mut carry) = words[at].overflowing_add(small as u64);
+        words[at] = sum;
+        for word in &mut words[at + 1..] {
+            if carry == negative {
+                break;
+            }
+            let (sum, over) =
+                if negative { word.overflowing_sub(1) } else { word.overflowing_add(1) };
+            (*word, carry) = (sum, over != negative);
+        }
+        Big(words)
     }
 
     #[must_use]
     pub fn sum(self, other: Big) -> Big {
-        self.sum_at(other, 0)
-    }
-
-    /// This number and other × 2^(64 × at).
-    fn sum_at(self, other: Big, at: usize) -> Big {
         let mut words = self.0;
         let mut carry = false;
-        for (word, other) in words[at..].iter_mut().zip(other.0) {
+        for (word, other) in words.iter_mut().zip(other.0) {
             let (sum, first) = word.overflowing_add(other);
             let (sum, second) = sum.overflowing_add(u64::from(carry));
             *word = sum;
@@ -172,6 +180,7 @@ mod tests {
         assert_eq!(Big::from_hex(b"123456789abcdef00f"), Big::from_bytes(&bytes));
         assert_eq!(Big::ZERO.to_hex(), "0");
         assert_eq!(Big::from_bytes(&[255; 66]).to_hex(), "f".repeat(132));
+        assert_eq!(Big::from_bytes(&[255; 128]).to_hex(), "f".repeat(256));
     }
 
     #[test]
@@ -179,13 +188,13 @@ mod tests {
         assert_eq!(Big::from(-1).to_hex(), "-1");
         assert_eq!(Big::from(-0x10a).to_hex(), "-10a");
         assert_eq!(Big::ZERO.negated().to_hex(), "0");
-        let longest = Big::from_bytes(&[255; 66]).negated();
-        assert_eq!(longest.to_hex(), format!("-{}", "f".repeat(132)));
+        let longest = Big::from_bytes(&[255; 128]).negated();
+        assert_eq!(longest.to_hex(), format!("-{}", "f".repeat(256)));
     }
 
     #[test]
     fn a_number_and_its_negative_have_one_size() {
-        let top = Big::from_bytes(&[255; 66]);
+        let top = Big::from_bytes(&[255; 128]);
         for number in [Big::ZERO, Big::from(1), Big::from(64), top, top.plus(1)] {
             assert_eq!(number.size(), number);
             assert_eq!(number.negated().size(), number);
@@ -197,7 +206,7 @@ mod tests {
 
     #[test]
     fn sums() {
-        let top = Big::from_bytes(&[255; 66]);
+        let top = Big::from_bytes(&[255; 128]);
         assert_eq!(top.sum(top), top.doubled());
         assert_eq!(top.sum(top.negated()), Big::ZERO);
         assert_eq!(Big::from(3).sum(Big::from(-5)), Big::from(-2));
@@ -205,17 +214,22 @@ mod tests {
 
     #[test]
     fn small_sums_carry_and_borrow() {
-        let top = Big::from_bytes(&[255; 66]);
-        assert_eq!(top.plus(1).bit_length(), 529);
+        let top = Big::from_bytes(&[255; 128]);
+        assert_eq!(top.plus(1).bit_length(), 1025);
         assert_eq!(top.plus(1).plus(-1), top);
         assert_eq!(Big::ZERO.plus(-5).plus(3), Big::from(-2));
         assert_eq!(top.plus_at(1 << 16, 8).plus_at(-(1 << 16), 8), top);
-        assert_eq!(Big::ZERO.plus_at(1 << 16, 8), top.plus(1));
+        assert_eq!(Big::ZERO.plus_at(1, 16), top.plus(1));
+        // What 1,024 doublings make of the largest digit, and all smaller ones below it.
+        let most = top.plus_at(31, 16).doubled().plus(31);
+        assert!(!most.is_negative());
+        assert_eq!(most.bit_length(), 1031);
+        assert_eq!(most.negated().sum(most), Big::ZERO);
     }
 
     #[test]
     fn negation_changes_the_sign() {
-        let top = Big::from_bytes(&[255; 66]);
+        let top = Big::from_bytes(&[255; 128]);
         assert_eq!(Big::from(5).negated(), Big::from(-5));
         assert_eq!(Big::ZERO.negated(), Big::ZERO);
         assert_eq!(top.negated().negated(), top);

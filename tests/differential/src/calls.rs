@@ -4,11 +4,11 @@
 use crate::answer::Answer;
 use crate::big::Big;
 use crate::cheapest::Forms;
+use crate::limits::Limits;
 use crate::plan::{Plan, MOST_SLOTS};
-use crate::reader::{self, LONGEST_SHEET};
-use crate::scalars::{Scalar, MOST_BYTES};
+use crate::scalars::Scalar;
 use crate::sheet::Sheet;
-use crate::{codes, joint, row};
+use crate::{codes, joint, reader, row};
 use std::fmt;
 
 /// A call with all that is lent to it, but for what its buffers hold before.
@@ -55,9 +55,9 @@ pub enum Call {
 }
 
 impl Call {
-    /// The reference's answer.
-    pub fn answer(&self) -> Answer {
-        if let Some(number) = self.first_question_missed() {
+    /// The reference's answer within these limits.
+    pub fn answer(&self, limits: Limits) -> Answer {
+        if let Some(number) = self.first_question_missed(limits) {
             return Answer::refused(number, 0);
         }
         match self {
@@ -82,7 +82,7 @@ impl Call {
                 let forms = Forms::of(k.value(), l.value());
                 Answer::sheet(&forms.cheapest_sheet(*limit as usize))
             }
-            Call::Read { sheet } => match reader::read(sheet) {
+            Call::Read { sheet } => match reader::read(sheet, limits) {
                 Ok(()) => Answer::Accepted,
                 Err(refusal) => Answer::Refused(refusal),
             },
@@ -90,7 +90,8 @@ impl Call {
     }
 
     /// The number of the first question missed by a call other than the reader.
-    fn first_question_missed(&self) -> Option<u32> {
+    fn first_question_missed(&self, limits: Limits) -> Option<u32> {
+        let has_length = |scalar: &Scalar| (1..=limits.bytes()).contains(&scalar.bytes.len());
         let questions = match self {
             Call::Row { scalar, m, places } => {
                 vec![
@@ -114,17 +115,17 @@ impl Call {
                 ]
             }
             Call::PlanJ { k, l, room } => {
-                vec![(has_length(k) && has_length(l), 1), (*room >= LONGEST_SHEET, 3)]
+                vec![(has_length(k) && has_length(l), 1), (*room >= limits.sheet(), 3)]
             }
             Call::PlanI { k, l, m1, m2, room } => vec![
                 (has_length(k) && has_length(l), 1),
                 (is_window(*m1) && is_window(*m2), 2),
-                (*room >= LONGEST_SHEET, 3),
+                (*room >= limits.sheet(), 3),
             ],
             Call::Cheapest { k, l, limit, room } => vec![
                 (has_length(k) && has_length(l), 1),
                 (*limit <= MOST_SLOTS, 4),
-                (*room >= LONGEST_SHEET, 3),
+                (*room >= limits.sheet(), 3),
             ],
             Call::Read { .. } => Vec::new(),
         };
@@ -170,10 +171,6 @@ impl Call {
 
 fn sheet(plan: Plan, k: &Scalar, l: &Scalar) -> Answer {
     Answer::sheet(&Sheet::of_plan(plan, k.value(), l.value()))
-}
-
-fn has_length(scalar: &Scalar) -> bool {
-    (1..=MOST_BYTES).contains(&scalar.bytes.len())
 }
 
 fn is_window(m: u32) -> bool {

@@ -45,6 +45,7 @@ fn bit(number: &[u32], place: usize) -> i8 {
 mod tests {
     use super::*;
     use crate::big::Big;
+    use crate::limits::Limits;
     use crate::random::Random;
     use crate::{row, scalars};
 
@@ -52,7 +53,7 @@ mod tests {
     fn right_on_scalars_without_a_word_of_ones() {
         let random = &mut Random::new(13);
         for _ in 0..2000 {
-            let scalar = scalars::random(random).bytes;
+            let scalar = scalars::random(random, Limits::Gateway).bytes;
             if !words(&scalar).contains(&u32::MAX) {
                 let mut digits = row::recode(Big::from_bytes(&scalar), 1);
                 digits.resize(recode(&scalar).len(), 0);

@@ -82,6 +82,7 @@ pub fn additions(plan: Plan, weight: usize) -> usize {
 #[cfg(test)]
 mod tests {
     use super::*;
+    use crate::limits::Limits;
     use crate::plan::MOST_SLOTS;
     use crate::random::Random;
     use crate::scalars::{self, Scalar};
@@ -89,8 +90,9 @@ mod tests {
     #[test]
     fn additions_and_doublings_are_those_counted_on_the_sheet() {
         let mut random = Random::new(6);
-        let mut pairs: Vec<_> = (0..10).map(|_| scalars::random_pair(&mut random)).collect();
-        let (zero, all_ones) = (Scalar::plus([0]), Scalar::plus([255; 66]));
+        let mut pairs: Vec<_> =
+            (0..10).map(|_| scalars::random_pair(&mut random, Limits::Gateway)).collect();
+        let (zero, all_ones) = (Scalar::plus([0]), Scalar::plus([255; 128]));
         pairs.push((zero.clone(), zero.clone()));
         pairs.push((zero, Scalar::minus([3])));
         pairs.push((all_ones.clone(), all_ones.with_sign(1)));
@@ -123,7 +125,8 @@ mod tests {
     fn neither_the_counts_nor_the_plan_change_with_the_signs() {
         let mut random = Random::new(15);
         let small = (0..16 * 16).map(|pair| (Big::from(pair / 16), Big::from(pair % 16)));
-        let long: Vec<_> = (0..10).map(|_| scalars::random_pair(&mut random)).collect();
+        let long: Vec<_> =
+            (0..10).map(|_| scalars::random_pair(&mut random, Limits::Gateway)).collect();
         for (k, l) in small.chain(long.iter().map(|(k, l)| (k.value(), l.value()))) {
             let forms = Forms::of(k, l);
             for (k, l) in [(k.negated(), l), (k, l.negated()), (k.negated(), l.negated())] {

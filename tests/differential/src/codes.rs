@@ -31,6 +31,7 @@ fn code(remainder: Big, other: Big) -> u8 {
 #[cfg(test)]
 mod tests {
     use super::*;
+    use crate::limits::Limits;
     use crate::random::Random;
     use crate::{joint, scalars};
 
@@ -44,7 +45,7 @@ mod tests {
     fn a_remainder_makes_up_the_number_with_the_digits_below() {
         let mut random = Random::new(6);
         for _ in 0..100 {
-            let (k, l) = scalars::random_pair(&mut random);
+            let (k, l) = scalars::random_pair(&mut random, Limits::Gateway);
             let (k, l) = (k.value(), l.value());
             let columns = joint::recode(k, l);
             let (k_row, l_row) = joint::rows(&columns);
@@ -65,7 +66,7 @@ mod tests {
         };
         let mut random = Random::new(7);
         for _ in 0..500 {
-            let (k, l) = scalars::random_pair(&mut random);
+            let (k, l) = scalars::random_pair(&mut random, Limits::Gateway);
             let (k, l) = (k.value(), l.value());
             let columns = joint::recode(k, l);
             let (k_codes, l_codes) = of_columns(k, l, &columns);
@@ -84,7 +85,8 @@ mod tests {
     fn codes_do_not_change_with_the_signs() {
         let mut random = Random::new(8);
         let small = (0..64 * 64).map(|pair| (Big::from(pair / 64), Big::from(pair % 64)));
-        let long: Vec<_> = (0..200).map(|_| scalars::random_pair(&mut random)).collect();
+        let long: Vec<_> =
+            (0..200).map(|_| scalars::random_pair(&mut random, Limits::Gateway)).collect();
         for (k, l) in small.chain(long.iter().map(|(k, l)| (k.value(), l.value()))) {
             assert_eq!(codes(k.negated(), l), codes(k, l));
             assert_eq!(codes(k, l.negated()), codes(k, l));

@@ -1,15 +1,16 @@
 //! Damaged sheets.
 
+use crate::limits::Limits;
 use crate::plan::Plan;
 use crate::random::Random;
 
 const ALPHABET: &[u8] = b"0123456789abcdefADEIJLST,-\n";
 
 /// Damages the sheet in one to three ways; sometimes the header's counts are made true again.
-pub fn damage(random: &mut Random, sheet: &[u8]) -> Vec<u8> {
+pub fn damage(random: &mut Random, sheet: &[u8], limits: Limits) -> Vec<u8> {
     let mut damaged = sheet.to_vec();
     for _ in 0..random.pick(&[1, 1, 1, 2, 3]) {
-        damaged = damage_once(random, damaged);
+        damaged = damage_once(random, damaged, limits);
     }
     if random.once_in(2) {
         recount(&mut damaged);
@@ -17,10 +18,10 @@ pub fn damage(random: &mut Random, sheet: &[u8]) -> Vec<u8> {
     damaged
 }
 
-fn damage_once(random: &mut Random, sheet: Vec<u8>) -> Vec<u8> {
+fn damage_once(random: &mut Random, sheet: Vec<u8>, limits: Limits) -> Vec<u8> {
     match random.below(4) {
         0 => damage_bytes(random, sheet),
-        1 => damage_lines(random, sheet),
+        1 => damage_lines(random, sheet, limits),
         2 => damage_header(random, sheet),
         _ => damage_steps(random, sheet),
     }
@@ -44,7 +45,7 @@ fn damage_bytes(random: &mut Random, mut sheet: Vec<u8>) -> Vec<u8> {
 }
 
 /// Drops, doubles, swaps or inserts lines, or gives the sheet another plan's table.
-fn damage_lines(random: &mut Random, sheet: Vec<u8>) -> Vec<u8> {
+fn damage_lines(random: &mut Random, sheet: Vec<u8>, limits: Limits) -> Vec<u8> {
     let mut lines = part(&sheet);
     if lines.is_empty() {
         return sheet;
@@ -59,7 +60,7 @@ fn damage_lines(random: &mut Random, sheet: Vec<u8>) -> Vec<u8> {
         4 => lines.insert(at, random_line(random)),
         5 => replace_table(&mut lines, random_plan(random)),
         _ => {
-            let many = random.between(1, 600);
+            let many = random.between(1, limits.doubles() + 72);
             lines.splice(at..at, vec![b"D\n".to_vec(); many]);
         }
     }
@@ -262,12 +263,14 @@ mod tests {
     #[test]
     fn damage_meets_every_question() {
         let mut random = Random::new(11);
-        let mut numbers = BTreeSet::new();
-        for _ in 0..5000 {
-            if let Err(refusal) = reader::read(&damage(&mut random, GOOD)) {
-                numbers.insert(refusal.number);
+        for limits in Limits::BOTH {
+            let mut numbers = BTreeSet::new();
+            for _ in 0..5000 {
+                if let Err(refusal) = reader::read(&damage(&mut random, GOOD, limits), limits) {
+                    numbers.insert(refusal.number);
+                }
             }
+            assert_eq!(numbers.into_iter().collect::<Vec<_>>(), [6, 7, 8, 9, 10, 11]);
         }
-        assert_eq!(numbers.into_iter().collect::<Vec<_>>(), [6, 7, 8, 9, 10, 11]);
     }
 }

@@ -3,108 +3,151 @@
 //! then with others that come after it.
 
 use crate::answer::Answer;
+use crate::big::Big;
 use crate::calls::Call;
+use crate::limits::Limits;
+use crate::plan::Plan;
 use crate::samples::SEVEN_AND_TWO;
 use crate::scalars::{self, Scalar, SIGNS};
+use crate::sheet::{columns, Sheet};
 
-pub fn all() -> Vec<(Call, Answer)> {
-    let mut edges = rows();
-    edges.extend(joint_forms());
-    edges.extend(dense());
-    edges.extend(runs_of_ones());
-    edges.extend(row_refusals());
-    edges.extend(joint_refusals());
-    edges.extend(codes());
-    edges.extend(code_refusals());
-    edges.extend(plan_refusals());
-    edges.extend(cheapest_sheets());
-    edges.extend(negative_rows());
-    edges.extend(negative_joint_forms());
-    edges.extend(negative_sheets());
-    edges.extend(zeros_with_a_minus());
-    edges.extend(negative_refusals());
-    edges.extend(reads());
-    edges.extend(reads_of_negative_scalars());
+/// The calls at the edges of these limits.
+pub fn all(limits: Limits) -> Vec<(Call, Answer)> {
+    let mut edges = rows(limits);
+    edges.extend(joint_forms(limits));
+    edges.extend(dense(limits));
+    edges.extend(runs_of_ones(limits));
+    edges.extend(row_refusals(limits));
+    edges.extend(joint_refusals(limits));
+    edges.extend(codes(limits));
+    edges.extend(code_refusals(limits));
+    edges.extend(plan_refusals(limits));
+    edges.extend(cheapest_sheets(limits));
+    edges.extend(negative_rows(limits));
+    edges.extend(negative_joint_forms(limits));
+    edges.extend(negative_sheets(limits));
+    edges.extend(zeros_with_a_minus(limits));
+    edges.extend(negative_refusals(limits));
+    edges.extend(reads(limits));
+    edges.extend(reads_of_negative_scalars(limits));
+    edges.extend(reads_at_either_limit(limits));
     edges
 }
 
-fn rows() -> Vec<(Call, Answer)> {
-    let carried = sparse(529, &[(0, -1), (528, 1)]);
+/// The row of all ones in the most bytes.
+fn carried(limits: Limits) -> Vec<i8> {
+    sparse(limits.places(), &[(0, -1), (limits.places() - 1, 1)])
+}
+
+/// All ones in the most bytes.
+fn all_ones(limits: Limits) -> Vec<u8> {
+    vec![255; limits.bytes()]
+}
+
+/// All ones in a byte more.
+fn too_long(limits: Limits) -> Vec<u8> {
+    vec![255; limits.bytes() + 1]
+}
+
+fn rows(limits: Limits) -> Vec<(Call, Answer)> {
+    let (ones, places) = (all_ones(limits), limits.places());
     vec![
         (row(&[9], 31, 9), Answer::Row(vec![9])),
         (row(&[0, 0, 9], 7, 25), Answer::Row(vec![-7, 0, 0, 0, 1])),
-        (row(&[255; 66], 1, 529), Answer::Row(carried.clone())),
-        (row(&[255; 66], 31, 600), Answer::Row(carried)),
+        (row(&ones, 1, places), Answer::Row(carried(limits))),
+        (row(&ones, 31, places + 71), Answer::Row(carried(limits))),
     ]
 }
 
-fn joint_forms() -> Vec<(Call, Answer)> {
-    let carried = sparse(529, &[(0, -1), (528, 1)]);
+fn joint_forms(limits: Limits) -> Vec<(Call, Answer)> {
+    let (ones, carried, places) = (all_ones(limits), carried(limits), limits.places());
     let thirteen_and_ten = Answer::Columns(vec![-1, -1, 0, 0, 1], vec![0, 1, 0, 1, 0]);
     vec![
         (joint(&[0], &[0], 9, 9), Answer::Columns(vec![], vec![])),
         (joint(&[13], &[0, 0, 10], 25, 25), thirteen_and_ten),
         (
-            joint(&[2], &[255; 66], 529, 529),
-            Answer::Columns(sparse(529, &[(1, 1)]), carried.clone()),
+            joint(&[2], &ones, places, places),
+            Answer::Columns(sparse(places, &[(1, 1)]), carried.clone()),
         ),
-        (joint(&[255; 66], &[255; 66], 529, 600), Answer::Columns(carried.clone(), carried)),
+        (joint(&ones, &ones, places, places + 71), Answer::Columns(carried.clone(), carried)),
     ]
 }
 
 /// As many digits, and as many columns, that are not zero as the rules allow.
-fn dense() -> Vec<(Call, Answer)> {
+fn dense(limits: Limits) -> Vec<(Call, Answer)> {
+    let (places, top) = (limits.places(), limits.places() - 1);
     let row_digit = |place| match place {
-        528 => 1,
+        _ if place == top => 1,
         _ if place % 2 == 0 => -1,
         _ => 0,
     };
-    let every_third = |first| (0..527).map(|place| i8::from(place % 3 == first)).collect();
-    let (k, l) = scalars::dense_pair();
+    // The column at the highest place below the top is not zero unless it is the third of three.
+    let columns = if top % 3 == 0 { top - 1 } else { top };
+    let every_third = |first| (0..columns).map(|place| i8::from(place % 3 == first)).collect();
+    let (k, l) = scalars::dense_pair(limits);
     vec![
-        (row(&scalars::dense(), 1, 529), Answer::Row((0..529).map(row_digit).collect())),
-        (joint(&k, &l, 529, 529), Answer::Columns(every_third(0), every_third(1))),
+        (
+            row(&scalars::dense(limits), 1, places),
+            Answer::Row((0..places).map(row_digit).collect()),
+        ),
+        (joint(&k, &l, places, places), Answer::Columns(every_third(0), every_third(1))),
     ]
 }
 
 /// Runs of ones, some over the borders of 32-bit and 64-bit words: as a row for the smallest and
 /// the largest window, and jointly with 1.
-fn runs_of_ones() -> Vec<(Call, Answer)> {
-    let runs =
-        [(0, 32), (0, 64), (0, 65), (28, 36), (60, 68), (5, 101), (0, 255), (0, 256), (0, 528)];
+fn runs_of_ones(limits: Limits) -> Vec<(Call, Answer)> {
+    let (places, bits) = (limits.places(), 8 * limits.bytes());
+    let runs = [
+        (0, 32),
+        (0, 64),
+        (0, 65),
+        (28, 36),
+        (60, 68),
+        (5, 101),
+        (0, 255),
+        (0, 256),
+        (31, 528),
+        (0, bits),
+        (bits - 65, bits - 1),
+        (33, bits),
+    ];
     let mut edges = Vec::new();
     for (from, to) in runs {
         let scalar = scalars::ones(from, to);
         let digits = sparse(to + 1, &[(from, -1), (to, 1)]);
         let one = sparse(to + 1, &[(0, 1)]);
         edges.extend([
-            (row(&scalar, 1, 529), Answer::Row(digits.clone())),
-            (row(&scalar, 31, 529), Answer::Row(digits.clone())),
-            (joint(&scalar, &[1], 529, 529), Answer::Columns(digits, one)),
+            (row(&scalar, 1, places), Answer::Row(digits.clone())),
+            (row(&scalar, 31, places), Answer::Row(digits.clone())),
+            (joint(&scalar, &[1], places, places), Answer::Columns(digits, one)),
         ]);
     }
     edges
 }
 
-fn row_refusals() -> Vec<(Call, Answer)> {
+fn row_refusals(limits: Limits) -> Vec<(Call, Answer)> {
+    let (longer, places) = (too_long(limits), limits.places());
     vec![
-        (row(&[255; 67], 1, 537), refused(1)),
+        (row(&longer, 1, places + 8), refused(1)),
+        (row(&longer, 4, 0), refused(1)),
         (row(&[], 1, 9), refused(1)),
         (row(&[9], 0, 9), refused(2)),
         (row(&[9], 4, 9), refused(2)),
         (row(&[9], 33, 9), refused(2)),
         (row(&[9], 257, 9), refused(2)),
         (row(&[9], 7, 8), refused(3)),
-        (row(&[255; 66], 1, 528), refused(3)),
+        (row(&all_ones(limits), 1, places - 1), refused(3)),
         (row(&[], 4, 0), refused(1)),
         (row(&[9], 4, 8), refused(2)),
     ]
 }
 
-fn joint_refusals() -> Vec<(Call, Answer)> {
+fn joint_refusals(limits: Limits) -> Vec<(Call, Answer)> {
+    let (longer, places) = (too_long(limits), limits.places());
     vec![
-        (joint(&[255; 67], &[10], 537, 537), refused(1)),
-        (joint(&[13], &[255; 67], 537, 537), refused(1)),
+        (joint(&longer, &[10], places + 8, places + 8), refused(1)),
+        (joint(&[13], &longer, places + 8, places + 8), refused(1)),
         (joint(&[], &[10], 9, 9), refused(1)),
         (joint(&[13], &[], 9, 9), refused(1)),
         (joint(&[13], &[], 8, 8), refused(1)),
@@ -112,14 +155,15 @@ fn joint_refusals() -> Vec<(Call, Answer)> {
         (joint(&[13], &[10], 9, 8), refused(3)),
         (joint(&[13], &[0, 10], 16, 17), refused(3)),
         (joint(&[0, 13], &[10], 17, 16), refused(3)),
+        (joint(&all_ones(limits), &[10], places, places - 1), refused(3)),
     ]
 }
 
 /// A sign that turns at 3 beside 2, in either row, and at 5 beside 2; none that turns at 1 beside 6,
 /// and none in a run of ones.
-fn codes() -> Vec<(Call, Answer)> {
-    let carried = sparse(529, &[(0, -1), (528, 1)]);
-    let carried_codes = sparse(529, &[(0, 1), (528, 1)]);
+fn codes(limits: Limits) -> Vec<(Call, Answer)> {
+    let (ones, carried, places) = (all_ones(limits), carried(limits), limits.places());
+    let carried_codes = sparse(places, &[(0, 1), (places - 1, 1)]);
     vec![
         (coded(&[0], &[0], [9; 4]), codes_are(&[], &[], &[], &[])),
         (coded(&[3], &[2], [9, 10, 11, 600]), codes_are(&[1, 1], &[2, 1], &[0, 1], &[0, 1])),
@@ -133,15 +177,16 @@ fn codes() -> Vec<(Call, Answer)> {
             codes_are(&[1, 0, 0, 0], &[1, 0, 0, 0], &[0, -1, 0, 1], &[0, 1, 0, 1]),
         ),
         (
-            coded(&[255; 66], &[255; 66], [529, 600, 529, 529]),
+            coded(&ones, &ones, [places, places + 71, places, places]),
             codes_are(&carried, &carried_codes, &carried, &carried_codes),
         ),
     ]
 }
 
-fn code_refusals() -> Vec<(Call, Answer)> {
+fn code_refusals(limits: Limits) -> Vec<(Call, Answer)> {
+    let places = limits.places();
     vec![
-        (coded(&[255; 67], &[10], [537; 4]), refused(1)),
+        (coded(&too_long(limits), &[10], [places + 8; 4]), refused(1)),
         (coded(&[13], &[], [9; 4]), refused(1)),
         (coded(&[13], &[], [0; 4]), refused(1)),
         (coded(&[13], &[10], [8, 9, 9, 9]), refused(3)),
@@ -150,34 +195,36 @@ fn code_refusals() -> Vec<(Call, Answer)> {
         (coded(&[13], &[10], [9, 9, 9, 8]), refused(3)),
         (coded(&[13], &[0, 10], [17, 17, 16, 17]), refused(3)),
         (coded(&[0, 13], &[10], [17, 17, 17, 16]), refused(3)),
-        (coded(&[255; 66], &[10], [529, 529, 529, 528]), refused(3)),
+        (coded(&all_ones(limits), &[10], [places, places, places, places - 1]), refused(3)),
     ]
 }
 
-fn plan_refusals() -> Vec<(Call, Answer)> {
+fn plan_refusals(limits: Limits) -> Vec<(Call, Answer)> {
+    let (most, room) = (limits.bytes(), limits.sheet());
     vec![
-        (plan_j(0, 66, 16_384), refused(1)),
-        (plan_i(66, 0, 1, 1, 16_384), refused(1)),
-        (plan_j(67, 66, 16_384), refused(1)),
-        (plan_i(66, 67, 2, 1, 16_383), refused(1)),
-        (plan_i(66, 66, 2, 1, 16_384), refused(2)),
-        (plan_i(66, 66, 1, 0, 16_384), refused(2)),
-        (plan_i(66, 66, 1, 33, 16_383), refused(2)),
-        (plan_i(66, 66, 257, 1, 16_384), refused(2)),
-        (plan_i(66, 66, 31, 31, 16_383), refused(3)),
-        (plan_j(66, 66, 16_383), refused(3)),
+        (plan_j(0, most, room), refused(1)),
+        (plan_i(most, 0, 1, 1, room), refused(1)),
+        (plan_j(most + 1, most, room), refused(1)),
+        (plan_i(most, most + 1, 2, 1, room - 1), refused(1)),
+        (plan_i(most, most, 2, 1, room), refused(2)),
+        (plan_i(most, most, 1, 0, room), refused(2)),
+        (plan_i(most, most, 1, 33, room - 1), refused(2)),
+        (plan_i(most, most, 257, 1, room), refused(2)),
+        (plan_i(most, most, 31, 31, room - 1), refused(3)),
+        (plan_j(most, most, room - 1), refused(3)),
     ]
 }
 
-fn cheapest_sheets() -> Vec<(Call, Answer)> {
+fn cheapest_sheets(limits: Limits) -> Vec<(Call, Answer)> {
+    let enough = limits.sheet();
     let cheapest = |limit, room| order(&Scalar::plus([7]), &Scalar::plus([2]), limit, room);
-    let order = |k, l, limit| order(&Scalar::plus([k]), &Scalar::plus([l]), limit, 16_384);
+    let order = |k, l, limit| order(&Scalar::plus([k]), &Scalar::plus([l]), limit, enough);
     vec![
-        (cheapest(30, 16_384), sheet(SEVEN_AND_TWO, 2)),
-        (cheapest(31, 16_384), sheet(SEVEN_AND_TWO, 2)),
-        (cheapest(32, 16_384), refused(4)),
-        (cheapest(31, 16_383), refused(3)),
-        (cheapest(32, 16_383), refused(4)),
+        (cheapest(30, enough), sheet(SEVEN_AND_TWO, 2)),
+        (cheapest(31, enough), sheet(SEVEN_AND_TWO, 2)),
+        (cheapest(32, enough), refused(4)),
+        (cheapest(31, enough - 1), refused(3)),
+        (cheapest(32, enough - 1), refused(4)),
         // Windows 3, 1 need two slots: one for 3P, one for 2P.
         (order(45, 0, 1), sheet(FORTY_FIVE_BY_WINDOW_1, 3)),
         (order(45, 0, 2), sheet(FORTY_FIVE_BY_WINDOW_3, 2)),
@@ -198,21 +245,22 @@ const FORTY_FIVE_BY_WINDOW_3: &str =
     "S,I,3,1,2,2,5,2d,0\nT,2,0\nT,3,0\nL,3,0\nD\nD\nD\nD\nA,-3,0\nE\n";
 
 /// The samples with a minus, and the longest rows, under every sign that is one.
-fn negative_rows() -> Vec<(Call, Answer)> {
-    let carried = sparse(529, &[(0, 1), (528, -1)]);
+fn negative_rows(limits: Limits) -> Vec<(Call, Answer)> {
+    let (ones, places) = (all_ones(limits), limits.places());
+    let carried = sparse(places, &[(0, 1), (places - 1, -1)]);
     let rows: [(&[u8], u32, &[i8]); 7] = [
         (&[7], 5, &[1, 0, 0, -1]),
         (&[9], 5, &[-1, 0, 0, -1]),
         (&[0, 9], 7, &[7, 0, 0, 0, -1]),
         (&[33], 31, &[31, 0, 0, 0, 0, 0, -1]),
         (&[53], 3, &[3, 0, 0, 1, 0, 0, -1]),
-        (&[255; 66], 1, &carried),
-        (&[255; 66], 31, &carried),
+        (&ones, 1, &carried),
+        (&ones, 31, &carried),
     ];
     let mut edges = Vec::new();
     for sign in minuses() {
         for (scalar, m, digits) in rows {
-            let call = signed_row(&Scalar::new(scalar, sign), m, 529);
+            let call = signed_row(&Scalar::new(scalar, sign), m, places);
             edges.push((call, Answer::Row(digits.to_vec())));
         }
     }
@@ -221,9 +269,9 @@ fn negative_rows() -> Vec<(Call, Answer)> {
 
 /// 13 and 10, where a sign turns, and the longest pair, with every two signs: each row is negated
 /// with its own scalar, and no code changes.
-fn negative_joint_forms() -> Vec<(Call, Answer)> {
+fn negative_joint_forms(limits: Limits) -> Vec<(Call, Answer)> {
     let (thirteen, ten) = ([-1, -1, 0, 0, 1], [0, 1, 0, 1, 0]);
-    let carried = sparse(529, &[(0, -1), (528, 1)]);
+    let (ones, carried, places) = (all_ones(limits), carried(limits), limits.places());
     let with = |sign: u32, row: &[i8]| -> Vec<i8> {
         row.iter().map(|&digit| if sign == 0 { digit } else { -digit }).collect()
     };
@@ -235,30 +283,31 @@ fn negative_joint_forms() -> Vec<(Call, Answer)> {
             let coded = codes_are(&k_row, &[2, 1, 0, 0, 1], &l_row, &[0, 1, 0, 1, 0]);
             edges.push((signed_joint(&k, &l, 17, 17), Answer::Columns(k_row, l_row)));
             edges.push((signed_coded(&k, &l, [17, 18, 19, 20]), coded));
-            let (k, l) = (Scalar::new([255; 66], ks), Scalar::new([255; 66], ls));
+            let (k, l) = (Scalar::new(ones.clone(), ks), Scalar::new(ones.clone(), ls));
             let columns = Answer::Columns(with(ks, &carried), with(ls, &carried));
-            edges.push((signed_joint(&k, &l, 529, 529), columns));
+            edges.push((signed_joint(&k, &l, places, places), columns));
         }
     }
     edges
 }
 
 /// The printed sheet with each sign turned, and one of plan J.
-fn negative_sheets() -> Vec<(Call, Answer)> {
+fn negative_sheets(limits: Limits) -> Vec<(Call, Answer)> {
+    let room = limits.sheet();
     let (seven, two) = (Scalar::plus([7]), Scalar::plus([2]));
     let mut edges = Vec::new();
     for sign in minuses() {
         let (less_seven, less_two) = (seven.with_sign(sign), two.with_sign(sign));
         edges.extend([
-            (order(&less_seven, &two, 0, 16_384), sheet(LESS_SEVEN_AND_TWO, 2)),
-            (order(&seven, &less_two, 0, 16_384), sheet(SEVEN_LESS_TWO, 2)),
-            (order(&less_seven, &less_two, 31, 16_384), sheet(LESS_SEVEN_LESS_TWO, 2)),
+            (order(&less_seven, &two, 0, room), sheet(LESS_SEVEN_AND_TWO, 2)),
+            (order(&seven, &less_two, 0, room), sheet(SEVEN_LESS_TWO, 2)),
+            (order(&less_seven, &less_two, 31, room), sheet(LESS_SEVEN_LESS_TWO, 2)),
         ]);
     }
     let (k, l) = (Scalar::minus([6]), Scalar::plus([11]));
-    edges.push((Call::PlanJ { k, l, room: 16_384 }, sheet(LESS_SIX_AND_ELEVEN, 4)));
+    edges.push((Call::PlanJ { k, l, room }, sheet(LESS_SIX_AND_ELEVEN, 4)));
     let (k, l) = (Scalar::minus([45]), Scalar::plus([0]));
-    let call = Call::PlanI { k, l, m1: 3, m2: 1, room: 16_384 };
+    let call = Call::PlanI { k, l, m1: 3, m2: 1, room };
     edges.push((call, sheet(LESS_FORTY_FIVE, 2)));
     edges
 }
@@ -275,10 +324,11 @@ const LESS_SIX_AND_ELEVEN: &str =
 const LESS_FORTY_FIVE: &str = "S,I,3,1,2,2,5,-2d,0\nT,2,0\nT,3,0\nL,-3,0\nD\nD\nD\nD\nA,3,0\nE\n";
 
 /// Zero bytes are zero with any sign.
-fn zeros_with_a_minus() -> Vec<(Call, Answer)> {
+fn zeros_with_a_minus(limits: Limits) -> Vec<(Call, Answer)> {
+    let room = limits.sheet();
     let mut edges = Vec::new();
     for sign in minuses() {
-        for bytes in [1, 2, 66] {
+        for bytes in [1, 2, limits.bytes()] {
             let zero = Scalar::new(vec![0; bytes], sign);
             let one = Scalar::plus([1]);
             let places = 8 * bytes + 1;
@@ -288,13 +338,10 @@ fn zeros_with_a_minus() -> Vec<(Call, Answer)> {
                 (signed_joint(&zero, &zero, places, places), Answer::Columns(vec![], vec![])),
                 (signed_joint(&zero, &one, places, places), Answer::Columns(vec![0], vec![1])),
                 (signed_coded(&one, &zero, [places; 4]), codes_are(&[1], &[1], &[0], &[0])),
-                (order(&zero, &zero, 31, 16_384), sheet("S,I,1,1,0,0,0,0,0\nE\n", 0)),
-                (order(&zero, &one, 0, 16_384), sheet("S,I,1,1,0,0,0,0,1\nL,0,1\nE\n", 0)),
-                (order(&one, &zero, 0, 16_384), sheet("S,I,1,1,0,0,0,1,0\nL,1,0\nE\n", 0)),
-                (
-                    Call::PlanJ { k, l, room: 16_384 },
-                    sheet("S,J,1,1,2,2,0,0,0\nT,1,1\nT,1,-1\nE\n", 2),
-                ),
+                (order(&zero, &zero, 31, room), sheet("S,I,1,1,0,0,0,0,0\nE\n", 0)),
+                (order(&zero, &one, 0, room), sheet("S,I,1,1,0,0,0,0,1\nL,0,1\nE\n", 0)),
+                (order(&one, &zero, 0, room), sheet("S,I,1,1,0,0,0,1,0\nL,1,0\nE\n", 0)),
+                (Call::PlanJ { k, l, room }, sheet("S,J,1,1,2,2,0,0,0\nT,1,1\nT,1,-1\nE\n", 2)),
             ]);
         }
     }
@@ -302,33 +349,34 @@ fn zeros_with_a_minus() -> Vec<(Call, Answer)> {
 }
 
 /// A minus neither meets a question nor misses one.
-fn negative_refusals() -> Vec<(Call, Answer)> {
+fn negative_refusals(limits: Limits) -> Vec<(Call, Answer)> {
+    let (most, places, room) = (limits.bytes(), limits.places(), limits.sheet());
     let mut edges = Vec::new();
     for sign in minuses() {
         let scalar = |bytes: usize| Scalar::new(vec![7; bytes], sign);
         edges.extend([
             (signed_row(&scalar(0), 4, 0), refused(1)),
-            (signed_row(&scalar(67), 1, 537), refused(1)),
-            (signed_row(&scalar(66), 4, 529), refused(2)),
-            (signed_row(&scalar(66), 1, 528), refused(3)),
+            (signed_row(&scalar(most + 1), 1, places + 8), refused(1)),
+            (signed_row(&scalar(most), 4, places), refused(2)),
+            (signed_row(&scalar(most), 1, places - 1), refused(3)),
             (signed_joint(&scalar(1), &scalar(0), 9, 9), refused(1)),
-            (signed_joint(&scalar(67), &scalar(1), 537, 537), refused(1)),
+            (signed_joint(&scalar(most + 1), &scalar(1), places + 8, places + 8), refused(1)),
             (signed_joint(&scalar(1), &scalar(2), 16, 17), refused(3)),
             (signed_coded(&scalar(0), &scalar(1), [9; 4]), refused(1)),
             (signed_coded(&scalar(1), &scalar(1), [9, 9, 9, 8]), refused(3)),
             (order(&scalar(0), &scalar(1), 32, 0), refused(1)),
-            (order(&scalar(1), &scalar(67), 0, 16_384), refused(1)),
-            (order(&scalar(1), &scalar(1), 32, 16_384), refused(4)),
-            (order(&scalar(1), &scalar(1), 31, 16_383), refused(3)),
+            (order(&scalar(1), &scalar(most + 1), 0, room), refused(1)),
+            (order(&scalar(1), &scalar(1), 32, room), refused(4)),
+            (order(&scalar(1), &scalar(1), 31, room - 1), refused(3)),
         ]);
     }
     edges
 }
 
-fn reads() -> Vec<(Call, Answer)> {
+fn reads(limits: Limits) -> Vec<(Call, Answer)> {
     vec![
-        (Call::Read { sheet: vec![b'E'; 16_384] }, Answer::refused(6, 1)),
-        (Call::Read { sheet: vec![b'E'; 16_385] }, Answer::refused(5, 0)),
+        (Call::Read { sheet: vec![b'E'; limits.sheet()] }, Answer::refused(6, 1)),
+        (Call::Read { sheet: vec![b'E'; limits.sheet() + 1] }, Answer::refused(5, 0)),
         (read(FORTY_FIVE_BY_WINDOW_1), Answer::Accepted),
         (read(FORTY_FIVE_BY_WINDOW_3), Answer::Accepted),
         // An older header, without the place of the working double.
@@ -338,7 +386,7 @@ fn reads() -> Vec<(Call, Answer)> {
 
 /// Each sheet under its own header and under those with another sign; `-0` and its like; and the
 /// longest scalars behind a minus.
-fn reads_of_negative_scalars() -> Vec<(Call, Answer)> {
+fn reads_of_negative_scalars(limits: Limits) -> Vec<(Call, Answer)> {
     let sheets = [
         ("7,2", SEVEN_AND_TWO),
         ("-7,2", LESS_SEVEN_AND_TWO),
@@ -357,13 +405,69 @@ fn reads_of_negative_scalars() -> Vec<(Call, Answer)> {
             edges.push((read(&SEVEN_AND_TWO.replace("7,2\n", &pair)), Answer::refused(6, 1)));
         }
     }
-    let ones = "f".repeat(132);
-    let all_ones = |sign| format!("S,I,1,1,0,1,528,{sign}{ones},0\n");
-    let steps = format!("L,-1,0\n{}A,1,0\nE\n", "D\n".repeat(528));
+    let (ones, doubles) = ("f".repeat(limits.figures()), limits.doubles());
+    let all_ones = |sign| format!("S,I,1,1,0,1,{doubles},{sign}{ones},0\n");
+    let steps = format!("L,-1,0\n{}A,1,0\nE\n", "D\n".repeat(doubles));
     edges.push((read(&format!("{}{steps}", all_ones("-"))), Answer::Accepted));
     edges.push((read(&format!("{}{steps}", all_ones(""))), Answer::refused(11, 1)));
     edges.push((read(&format!("{}{steps}", all_ones("-f"))), Answer::refused(6, 1)));
     edges
+}
+
+/// Sheets at the limits of the card and of the gateway, each with the answer of both: of so many D
+/// lines, of so many bytes, and with so many figures in the header. Within the limits of D lines and
+/// figures no sheet has 16,384 bytes at the card or 32,768 at the gateway, so one that has them
+/// misses a question after 5.
+fn reads_at_either_limit(limits: Limits) -> Vec<(Call, Answer)> {
+    let (refused, accepted) = (Answer::refused, Answer::Accepted);
+    let edges = [
+        (cancelling(528, false, 0), accepted.clone(), accepted.clone()),
+        (cancelling(529, false, 0), refused(9, 1_062), accepted.clone()),
+        (cancelling(1_024, false, 0), refused(9, 1_062), accepted.clone()),
+        (cancelling(1_025, false, 0), refused(9, 1_062), refused(9, 2_054)),
+        (of_length(16_384, 1_024), refused(9, 1_591), accepted.clone()),
+        (of_length(16_385, 1_024), refused(5, 0), accepted.clone()),
+        (of_length(32_768, 2_048), refused(5, 0), refused(9, 3_079)),
+        (of_length(32_769, 2_048), refused(5, 0), refused(5, 0)),
+        (of_ones(132), accepted.clone(), accepted.clone()),
+        (of_ones(133), refused(6, 1), accepted.clone()),
+        (of_ones(256), refused(6, 1), accepted),
+        (of_ones(257), refused(6, 1), refused(6, 1)),
+    ];
+    let edge = |(sheet, card, gateway): (String, Answer, Answer)| match limits {
+        Limits::Card => (read(&sheet), card),
+        Limits::Gateway => (read(&sheet), gateway),
+    };
+    edges.into_iter().map(edge).collect()
+}
+
+/// A sheet for 1 and 1, or for 1 and 0, of so many D lines and a step at every place for each scalar
+/// that is not 0: 1 at the top, and −1 below. At so many pairs of places below the top P has 1 and
+/// −5 for −1 and −1, which is a byte less.
+fn cancelling(doubles: usize, with_q: bool, shorter: usize) -> String {
+    let row = [vec![-1; doubles], vec![1]].concat();
+    let mut p_row = row.clone();
+    for place in (0..shorter).map(|pair| doubles - 1 - 2 * pair) {
+        (p_row[place], p_row[place - 1]) = (1, -5);
+    }
+    let q_row = if with_q { row } else { Vec::new() };
+    let (k, l) = (Big::from(1), Big::from(i64::from(with_q)));
+    let plan = Plan::Interleaved { m1: 5, m2: 1 };
+    Sheet::from_columns(plan, k, l, &columns(&p_row, &q_row)).to_string()
+}
+
+/// Such a sheet in exactly so many bytes.
+fn of_length(bytes: usize, doubles: usize) -> String {
+    let shorter = cancelling(doubles, true, 0).len() - bytes;
+    let sheet = cancelling(doubles, true, shorter);
+    assert_eq!(sheet.len(), bytes);
+    sheet
+}
+
+/// The sheet of plan I 1, 1 for a scalar of so many figures f.
+fn of_ones(figures: usize) -> String {
+    let k = Big::from_hex("f".repeat(figures).as_bytes());
+    Sheet::of_plan(Plan::Interleaved { m1: 1, m2: 1 }, k, Big::ZERO).to_string()
 }
 
 /// The signs that are minus.
@@ -449,8 +553,10 @@ mod tests {
 
     #[test]
     fn the_reference_agrees_at_every_edge() {
-        for (call, answer) in all() {
-            assert_eq!(call.answer(), answer, "{call}");
+        for limits in Limits::BOTH {
+            for (call, answer) in all(limits) {
+                assert_eq!(call.answer(limits), answer, "{limits} {call}");
+            }
         }
     }
 }

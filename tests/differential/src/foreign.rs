@@ -1,6 +1,7 @@
 //! Sheets whose digits another recoder chose: the values are right, the weights need not be small.
 
 use crate::big::Big;
+use crate::limits::Limits;
 use crate::plan::Plan;
 use crate::random::Random;
 use crate::sheet::{columns, Sheet};
@@ -25,24 +26,26 @@ pub fn stretched_sheet(random: &mut Random, plan: Plan, k: Big, l: Big, places: 
 
 /// A sheet that ends elsewhere than its header says: at values that a narrow accumulator, or one
 /// without a sign, would take for k and l.
-pub fn false_sheet(random: &mut Random, plan: Plan, k: Big, l: Big) -> Sheet {
+pub fn false_sheet(random: &mut Random, plan: Plan, k: Big, l: Big, limits: Limits) -> Sheet {
     let (m1, m2) = plan.windows();
     let (mut p, mut q) = (k, l);
     if random.once_in(2) {
-        p = lookalike(random, k, m1);
+        p = lookalike(random, k, m1, limits);
     } else {
-        q = lookalike(random, l, m2);
+        q = lookalike(random, l, m2, limits);
     }
     let (p_row, q_row) = (wasteful_row(random, p, m1, 0), wasteful_row(random, q, m2, 0));
     Sheet::from_columns(plan, k, l, &columns(&p_row, &q_row))
 }
 
-/// The number negated, or off by a multiple of a power of two that 529 places of the window reach.
-fn lookalike(random: &mut Random, number: Big, m: u8) -> Big {
+/// The number negated, or off by a multiple of a power of two that the most places of the window
+/// reach.
+fn lookalike(random: &mut Random, number: Big, m: u8, limits: Limits) -> Big {
+    let (word, bit) = (limits.doubles() / 64, limits.doubles() % 64);
     match random.below(3) {
         0 => number.negated(),
-        1 => number.plus_at(random.pick(&[1, -1]), random.between(1, 8)),
-        _ => number.plus_at(i64::from(random_digit(random, m)) << 16, 8),
+        1 => number.plus_at(random.pick(&[1, -1]), random.between(1, word)),
+        _ => number.plus_at(i64::from(random_digit(random, m)) << bit, word),
     }
 }
 
@@ -116,13 +119,13 @@ mod tests {
     fn rows_have_the_value_and_the_length() {
         let mut random = Random::new(8);
         for _ in 0..500 {
-            let scalar = scalars::random(&mut random).value();
+            let scalar = scalars::random(&mut random, Limits::Gateway).value();
             let m = random.window();
             assert_eq!(value(&binary_row(scalar)), scalar);
             assert_eq!(value(&wasteful_row(&mut random, scalar, m, 0)), scalar);
-            let long = wasteful_row(&mut random, scalar, m, 560);
+            let long = wasteful_row(&mut random, scalar, m, 1_100);
             assert_eq!(value(&long), scalar);
-            assert!(scalar.is_zero() || long.len() >= 560);
+            assert!(scalar.is_zero() || long.len() >= 1_100);
         }
     }
 
@@ -133,7 +136,7 @@ mod tests {
             let k = scalars::random_of_length(&mut random, 20).value();
             let l = scalars::random_of_length(&mut random, 50).value();
             let sheet = sheet(&mut random, plan, k, l);
-            assert_eq!(reader::read(&sheet.to_bytes()), Ok(()));
+            assert_eq!(reader::read(&sheet.to_bytes(), Limits::Gateway), Ok(()));
         }
     }
 
@@ -142,23 +145,27 @@ mod tests {
         let mut random = Random::new(12);
         let plan = Plan::Interleaved { m1: 31, m2: 31 };
         let (k, l) = (Big::from(5), Big::from(-9));
-        let reads = (0..100).map(|_| {
-            let sheet = false_sheet(&mut random, plan, k, l);
-            reader::read(&sheet.to_bytes())
-        });
-        let missed_result = Err(Refusal { number: 11, line: 1 });
-        assert!(reads.filter(|read| *read == missed_result).count() > 80);
+        for limits in Limits::BOTH {
+            let mut read = || {
+                let sheet = false_sheet(&mut random, plan, k, l, limits);
+                reader::read(&sheet.to_bytes(), limits)
+            };
+            let missed_result = Err(Refusal { number: 11, line: 1 });
+            assert!((0..100).filter(|_| read() == missed_result).count() > 80);
+        }
     }
 
     #[test]
-    fn sheets_of_529_places_are_accepted_and_longer_ones_not() {
+    fn sheets_of_the_most_places_are_accepted_and_longer_ones_not() {
         let mut random = Random::new(10);
         let plan = Plan::Interleaved { m1: 1, m2: 1 };
         let (k, l) = (Big::from(5), Big::from(-9));
-        let longest = stretched_sheet(&mut random, plan, k, l, 529);
-        assert_eq!(reader::read(&longest.to_bytes()), Ok(()));
-        let longer = stretched_sheet(&mut random, plan, k, l, 530);
-        let refusal = reader::read(&longer.to_bytes()).expect_err("a double too many");
-        assert!(matches!(refusal, Refusal { number: 9, .. }));
+        for limits in Limits::BOTH {
+            let longest = stretched_sheet(&mut random, plan, k, l, limits.places());
+            assert_eq!(reader::read(&longest.to_bytes(), limits), Ok(()));
+            let longer = stretched_sheet(&mut random, plan, k, l, limits.places() + 1);
+            let refusal = reader::read(&longer.to_bytes(), limits).expect_err("a double too many");
+            assert!(matches!(refusal, Refusal { number: 9, .. }));
+        }
     }
 }

@@ -1,97 +1,70 @@
-//! The calls that libhost.a exports to a C host.
+//! The calls that libhost.a exports to a C host: the card's and the gateway's.
 
 use crate::lent::Lent;
 use reference::calls::Call;
+use reference::limits::Limits;
 use reference::scalars::Scalar;
 
-#[link(name = "host", kind = "static")]
-extern "C" {
-    fn sheets_row(
-        scalar: *const u8,
-        n: usize,
-        sign: u32,
-        m: u32,
-        digits: *mut u8,
-        places: usize,
-    ) -> u64;
-    fn sheets_joint(
-        k: *const u8,
-        kn: usize,
-        ks: u32,
-        l: *const u8,
-        ln: usize,
-        ls: u32,
-        k_digits: *mut u8,
-        k_places: usize,
-        l_digits: *mut u8,
-        l_places: usize,
-    ) -> u64;
-    fn sheets_joint_codes(
-        k: *const u8,
-        kn: usize,
-        ks: u32,
-        l: *const u8,
-        ln: usize,
-        ls: u32,
-        k_digits: *mut u8,
-        k_places: usize,
-        l_digits: *mut u8,
-        l_places: usize,
-        k_codes: *mut u8,
-        k_room: usize,
-        l_codes: *mut u8,
-        l_room: usize,
-    ) -> u64;
-    fn sheets_plan_j(
-        k: *const u8,
-        kn: usize,
-        ks: u32,
-        l: *const u8,
-        ln: usize,
-        ls: u32,
-        sheet: *mut u8,
-        room: usize,
-    ) -> u64;
-    fn sheets_plan_i(
-        k: *const u8,
-        kn: usize,
-        ks: u32,
-        l: *const u8,
-        ln: usize,
-        ls: u32,
-        m1: u32,
-        m2: u32,
-        sheet: *mut u8,
-        room: usize,
-    ) -> u64;
-    fn sheets_cheapest(
-        k: *const u8,
-        kn: usize,
-        ks: u32,
-        l: *const u8,
-        ln: usize,
-        ls: u32,
-        limit: u32,
-        sheet: *mut u8,
-        room: usize,
-    ) -> u64;
-    fn sheets_read(sheet: *const u8, n: usize) -> u64;
+/// What a call only reads, and what it writes to. The bytes behind a pointer are counted by the
+/// number after it; after those of a scalar stands its sign.
+type Read = *const u8;
+type Write = *mut u8;
+
+/// Declares each call of the card and its fellow of the gateway, which has the same signature.
+macro_rules! calls {
+    ($($call:ident: $card:ident, $gateway:ident ($($part:ty),*);)*) => {
+        #[link(name = "host", kind = "static")]
+        extern "C" {
+            $(
+                fn $card($(_: $part),*) -> u64;
+                fn $gateway($(_: $part),*) -> u64;
+            )*
+        }
+
+        struct Calls {
+            $($call: unsafe extern "C" fn($($part),*) -> u64,)*
+        }
+
+        const CARD: Calls = Calls { $($call: $card,)* };
+        const GATEWAY: Calls = Calls { $($call: $gateway,)* };
+    };
 }
 
-/// Makes the call with these inputs and buffers. The inputs come from pointers that may be written
-/// through, so that a call that writes to one is found out.
-pub fn make(call: &Call, inputs: &mut [Lent], buffers: &mut [Lent]) -> u64 {
+calls! {
+    row: sheets_row, sheets_gateway_row
+        (Read, usize, u32, u32, Write, usize);
+    joint: sheets_joint, sheets_gateway_joint
+        (Read, usize, u32, Read, usize, u32, Write, usize, Write, usize);
+    joint_codes: sheets_joint_codes, sheets_gateway_joint_codes
+        (Read, usize, u32, Read, usize, u32, Write, usize, Write, usize, Write, usize, Write, usize);
+    plan_j: sheets_plan_j, sheets_gateway_plan_j
+        (Read, usize, u32, Read, usize, u32, Write, usize);
+    plan_i: sheets_plan_i, sheets_gateway_plan_i
+        (Read, usize, u32, Read, usize, u32, u32, u32, Write, usize);
+    cheapest: sheets_cheapest, sheets_gateway_cheapest
+        (Read, usize, u32, Read, usize, u32, u32, Write, usize);
+    read: sheets_read, sheets_gateway_read
+        (Read, usize);
+}
+
+/// Makes the call of the set with these limits, with these inputs and buffers. The inputs come from
+/// pointers that may be written through, so that a call that writes to one is found out.
+pub fn make(limits: Limits, call: &Call, inputs: &mut [Lent], buffers: &mut [Lent]) -> u64 {
+    let calls = match limits {
+        Limits::Card => CARD,
+        Limits::Gateway => GATEWAY,
+    };
     // SAFETY: each pointer begins as many live bytes as the number after it says, and no two of
     // these slices overlap.
     match (call, inputs, buffers) {
         (Call::Row { scalar, m, .. }, [bytes], [digits]) => {
             let ((scalar, n, sign), (digits, places)) = (signed(bytes, scalar), digits.raw());
-            unsafe { sheets_row(scalar, n, sign, *m, digits, places) }
+            unsafe { (calls.row)(scalar, n, sign, *m, digits, places) }
         }
         (Call::Joint { k, l, .. }, [k_bytes, l_bytes], [k_digits, l_digits]) => {
             let ((k, kn, ks), (l, ln, ls)) = (signed(k_bytes, k), signed(l_bytes, l));
             let ((k_digits, k_places), (l_digits, l_places)) = (k_digits.raw(), l_digits.raw());
-            unsafe { sheets_joint(k, kn, ks, l, ln, ls, k_digits, k_places, l_digits, l_places) }
+            unsafe { (calls.joint)(k, kn, ks, l, ln, ls, k_digits, k_places, l_digits, l_places) }
         }
         (
             Call::JointCodes { k, l, .. },
@@ -102,7 +75,7 @@ pub fn make(call: &Call, inputs: &mut [Lent], buffers: &mut [Lent]) -> u64 {
             let ((k_digits, k_places), (l_digits, l_places)) = (k_digits.raw(), l_digits.raw());
             let ((k_codes, k_room), (l_codes, l_room)) = (k_codes.raw(), l_codes.raw());
             unsafe {
-                sheets_joint_codes(
+                (calls.joint_codes)(
                     k, kn, ks, l, ln, ls, k_digits, k_places, l_digits, l_places, k_codes, k_room,
                     l_codes, l_room,
                 )
@@ -111,21 +84,21 @@ pub fn make(call: &Call, inputs: &mut [Lent], buffers: &mut [Lent]) -> u64 {
         (Call::PlanJ { k, l, .. }, [k_bytes, l_bytes], [sheet]) => {
             let ((k, kn, ks), (l, ln, ls)) = (signed(k_bytes, k), signed(l_bytes, l));
             let (sheet, room) = sheet.raw();
-            unsafe { sheets_plan_j(k, kn, ks, l, ln, ls, sheet, room) }
+            unsafe { (calls.plan_j)(k, kn, ks, l, ln, ls, sheet, room) }
         }
         (Call::PlanI { k, l, m1, m2, .. }, [k_bytes, l_bytes], [sheet]) => {
             let ((k, kn, ks), (l, ln, ls)) = (signed(k_bytes, k), signed(l_bytes, l));
             let (sheet, room) = sheet.raw();
-            unsafe { sheets_plan_i(k, kn, ks, l, ln, ls, *m1, *m2, sheet, room) }
+            unsafe { (calls.plan_i)(k, kn, ks, l, ln, ls, *m1, *m2, sheet, room) }
         }
         (Call::Cheapest { k, l, limit, .. }, [k_bytes, l_bytes], [sheet]) => {
             let ((k, kn, ks), (l, ln, ls)) = (signed(k_bytes, k), signed(l_bytes, l));
             let (sheet, room) = sheet.raw();
-            unsafe { sheets_cheapest(k, kn, ks, l, ln, ls, *limit, sheet, room) }
+            unsafe { (calls.cheapest)(k, kn, ks, l, ln, ls, *limit, sheet, room) }
         }
         (Call::Read { .. }, [sheet], []) => {
             let (sheet, n) = sheet.raw();
-            unsafe { sheets_read(sheet, n) }
+            unsafe { (calls.read)(sheet, n) }
         }
         _ => unreachable!("every call has its own inputs and buffers"),
     }

@@ -82,6 +82,7 @@ pub fn rows(columns: &[Pair]) -> (Vec<i8>, Vec<i8>) {
 #[cfg(test)]
 mod tests {
     use super::*;
+    use crate::limits::Limits;
     use crate::random::Random;
     use crate::{row, scalars};
 
@@ -107,7 +108,7 @@ mod tests {
     fn columns_have_the_values_the_rules_and_the_length() {
         let mut random = Random::new(4);
         for _ in 0..500 {
-            let (k, l) = scalars::random_pair(&mut random);
+            let (k, l) = scalars::random_pair(&mut random, Limits::Gateway);
             let (k, l) = (k.value(), l.value());
             let columns = recode(k, l);
             let (k_row, l_row) = rows(&columns);
@@ -127,7 +128,8 @@ mod tests {
         let negated = |row: &[i8]| row.iter().map(|digit| -digit).collect::<Vec<i8>>();
         let mut random = Random::new(14);
         let small = (0..64 * 64).map(|pair| (Big::from(pair / 64), Big::from(pair % 64)));
-        let long: Vec<_> = (0..200).map(|_| scalars::random_pair(&mut random)).collect();
+        let long: Vec<_> =
+            (0..200).map(|_| scalars::random_pair(&mut random, Limits::Gateway)).collect();
         for (k, l) in small.chain(long.iter().map(|(k, l)| (k.value(), l.value()))) {
             let (k_row, l_row) = form(k, l);
             assert_eq!(form(k.negated(), l), (negated(&k_row), l_row.clone()));
@@ -149,7 +151,7 @@ mod tests {
     fn the_form_is_one_for_long_scalars_too() {
         let mut random = Random::new(5);
         for _ in 0..100 {
-            let (k, l) = scalars::random_pair(&mut random);
+            let (k, l) = scalars::random_pair(&mut random, Limits::Gateway);
             let (k, l) = (k.value(), l.value());
             assert_eq!(count_forms(k, l, &mut Vec::new()), 1);
         }

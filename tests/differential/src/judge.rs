@@ -5,10 +5,13 @@ use crate::lent::Lent;
 use crate::outcome::{Claim, Outcome};
 use reference::answer::Answer;
 use reference::calls::Call;
+use reference::limits::Limits;
 use reference::random::Random;
 use std::fmt::{Arguments, Debug};
 
 pub struct Judge {
+    /// Whose calls are compared.
+    limits: Limits,
     fills: Random,
     trace: bool,
     compared: u64,
@@ -17,7 +20,26 @@ pub struct Judge {
 
 impl Judge {
     pub fn new(seed: u64, trace: bool) -> Judge {
-        Judge { fills: Random::new(!seed), trace, compared: 0, failed: 0 }
+        let (limits, fills) = (Limits::Card, Random::new(!seed));
+        Judge { limits, fills, trace, compared: 0, failed: 0 }
+    }
+
+    /// Whose calls are compared: the card's at first.
+    pub fn limits(&self) -> Limits {
+        self.limits
+    }
+
+    /// Compares with the calls of these limits from now on.
+    pub fn turn_to(&mut self, limits: Limits) {
+        self.limits = limits;
+    }
+
+    /// Makes comparisons with the calls of these limits, and turns back.
+    pub fn at<T>(&mut self, limits: Limits, compare: impl FnOnce(&mut Judge) -> T) -> T {
+        let before = std::mem::replace(&mut self.limits, limits);
+        let found = compare(self);
+        self.limits = before;
+        found
     }
 
     pub fn compared(&self) -> u64 {
@@ -30,7 +52,7 @@ impl Judge {
 
     /// Makes the call and compares it whole with the reference's answer.
     pub fn compare(&mut self, call: &Call) -> Outcome {
-        self.compare_with(call, &call.answer())
+        self.compare_with(call, &call.answer(self.limits))
     }
 
     /// Makes the call and compares it whole with this answer.
@@ -43,7 +65,7 @@ impl Judge {
     /// its outcome, and the same one answered, against one found by other means.
     pub fn compare_claiming(&mut self, call: &Call, claim: &dyn Fn(&Outcome) -> Claim) {
         let fill = self.fills.number();
-        self.compare_filled(call, &call.answer(), fill, Some(claim));
+        self.compare_filled(call, &call.answer(self.limits), fill, Some(claim));
     }
 
     /// Holds what was found out about sheets against what it has to be.
@@ -56,7 +78,7 @@ impl Judge {
 
     /// Repeats a call whose guards and buffers were first filled from this number.
     pub fn repeat(&mut self, call: &Call, fill: u64) {
-        self.compare_filled(call, &call.answer(), fill, None);
+        self.compare_filled(call, &call.answer(self.limits), fill, None);
     }
 
     fn compare_filled(
@@ -67,14 +89,14 @@ impl Judge {
         claim: Option<&dyn Fn(&Outcome) -> Claim>,
     ) -> Outcome {
         if self.trace {
-            eprintln!("{call} {fill}");
+            eprintln!("{} {call} {fill}", self.limits);
         }
         let random = &mut Random::new(fill);
         let mut inputs: Vec<Lent> =
             call.inputs().iter().map(|input| Lent::copy_of(input, random)).collect();
         let mut buffers: Vec<Lent> =
             call.rooms().iter().map(|&room| Lent::buffer(room, random)).collect();
-        let code = host::make(call, &mut inputs, &mut buffers);
+        let code = host::make(self.limits, call, &mut inputs, &mut buffers);
 
         let expected = Outcome::expected(answer, &buffers);
         let got = Outcome::got(code, &buffers);
@@ -89,7 +111,8 @@ impl Judge {
         };
         self.compared += 1;
         if let Some((expected, got)) = difference {
-            let mut failed = format!("repeat with: tests/differential/run {call} {fill}");
+            let mut failed =
+                format!("repeat with: tests/differential/run {} {call} {fill}", self.limits);
             if let Call::Read { sheet } = call {
                 failed += &format!("\nsheet: \"{}\"", sheet.escape_ascii());
             }

@@ -15,6 +15,7 @@ pub mod foreign;
 pub mod joint;
 pub mod least;
 pub mod licences;
+pub mod limits;
 pub mod plan;
 pub mod random;
 pub mod reader;

@@ -12,6 +12,7 @@ mod runs;
 
 use judge::Judge;
 use reference::calls;
+use reference::limits::Limits;
 use reference::random::Random;
 use std::env;
 use std::process::ExitCode;
@@ -46,19 +47,24 @@ fn seed() -> Option<u64> {
 
 fn compare_everything(judge: &mut Judge, seed: u64) {
     let random = &mut Random::new(seed);
-    section(judge, "samples", runs::samples::run);
-    section(judge, "rows", |judge| runs::rows::run(judge, random));
-    section(judge, "joint forms", |judge| runs::joint_forms::run(judge, random));
-    section(judge, "sheets of plans", |judge| runs::plans::run(judge, random));
-    section(judge, "cheapest sheets", |judge| runs::cheapest::run(judge, random));
+    for limits in Limits::BOTH {
+        judge.turn_to(limits);
+        section(judge, "samples", runs::samples::run);
+        section(judge, "rows", |judge| runs::rows::run(judge, random));
+        section(judge, "joint forms", |judge| runs::joint_forms::run(judge, random));
+        section(judge, "sheets of plans", |judge| runs::plans::run(judge, random));
+        section(judge, "cheapest sheets", |judge| runs::cheapest::run(judge, random));
+        section(judge, "signs", |judge| runs::signs::run(judge, random));
+        section(judge, "reads", |judge| {
+            for (number, count) in runs::reads::run(judge, random).by_number() {
+                println!("  reads answered {number}: {count}");
+            }
+        });
+    }
+    judge.turn_to(Limits::Card);
     section(judge, "changed orders", runs::changed_orders::run);
     section(judge, "small scalars", runs::small::run);
-    section(judge, "signs", |judge| runs::signs::run(judge, random));
-    section(judge, "reads", |judge| {
-        for (number, count) in runs::reads::run(judge, random).by_number() {
-            println!("  reads answered {number}: {count}");
-        }
-    });
+    section(judge, "the card's at the gateway", |judge| runs::both::run(judge, random));
     section(judge, "licences", |judge| {
         let found = runs::licences::run(judge, random);
         let runs::licences::Found { licences, sheets, operations, spoiled } = found;
@@ -71,17 +77,19 @@ fn section(judge: &mut Judge, name: &str, run: impl FnOnce(&mut Judge)) {
     let (before, start) = (judge.compared(), Instant::now());
     run(judge);
     let (compared, seconds) = (judge.compared() - before, start.elapsed().as_secs_f64());
-    println!("{name}: {compared} comparisons in {seconds:.1} s");
+    println!("{}: {name}: {compared} comparisons in {seconds:.1} s", judge.limits());
 }
 
-/// Repeats the call that a failure printed; the last word is the number that fills the buffers.
+/// Repeats the call that a failure printed; the first word says whose it is, and the last is the
+/// number that fills the buffers.
 fn repeat(judge: &mut Judge, words: &[String]) -> bool {
     let words: Vec<&str> = words.iter().map(String::as_str).collect();
-    let Some((fill, words)) = words.split_last() else {
+    let [limits, words @ .., fill] = &words[..] else {
         return false;
     };
-    match (calls::parse(words), fill.parse()) {
-        (Some(call), Ok(fill)) => {
+    match (Limits::named(limits), calls::parse(words), fill.parse()) {
+        (Some(limits), Some(call), Ok(fill)) => {
+            judge.turn_to(limits);
             judge.repeat(&call, fill);
             true
         }

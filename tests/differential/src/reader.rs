@@ -3,11 +3,8 @@
 
 use crate::big::Big;
 use crate::joint::Pair;
+use crate::limits::Limits;
 use crate::plan::{is_doubling, Plan};
-
-pub const LONGEST_SHEET: usize = 16_384;
-pub const MOST_DOUBLES: usize = 528;
-const LONGEST_SCALAR: usize = 132;
 
 /// The number of the question missed, and the line.
 #[derive(Clone, Copy, PartialEq, Eq, Debug)]
@@ -16,15 +13,15 @@ pub struct Refusal {
     pub line: usize,
 }
 
-/// Is the sheet accepted?
-pub fn read(sheet: &[u8]) -> Result<(), Refusal> {
-    if sheet.len() > LONGEST_SHEET {
+/// Is the sheet accepted within these limits?
+pub fn read(sheet: &[u8], limits: Limits) -> Result<(), Refusal> {
+    if sheet.len() > limits.sheet() {
         return Err(Refusal { number: 5, line: 0 });
     }
-    let sheet = parse(sheet).map_err(|line| Refusal { number: 6, line })?;
+    let sheet = parse(sheet, limits).map_err(|line| Refusal { number: 6, line })?;
     let plan = sheet.plan().map_err(|line| Refusal { number: 7, line })?;
     refuse(8, sheet.first_forbidden_step(plan))?;
-    refuse(9, sheet.first_double_too_many())?;
+    refuse(9, sheet.first_double_too_many(limits))?;
     refuse(10, (!sheet.counts_are_true()).then_some(1))?;
     refuse(11, (sheet.result() != (sheet.header.k, sheet.header.l)).then_some(1))
 }
@@ -62,10 +59,10 @@ struct Parsed {
 }
 
 /// The lines of the sheet, or the first that is misspelled, misplaced or missing.
-fn parse(sheet: &[u8]) -> Result<Parsed, usize> {
+fn parse(sheet: &[u8], limits: Limits) -> Result<Parsed, usize> {
     let mut lines = Vec::new();
     for (before, text) in sheet.split_inclusive(|&byte| byte == b'\n').enumerate() {
-        let line = text.strip_suffix(b"\n").and_then(parse_line);
+        let line = text.strip_suffix(b"\n").and_then(|text| parse_line(text, limits));
         match line.filter(|line| may_follow(lines.last(), line)) {
             Some(line) => lines.push(line),
             None => return Err(before + 1),
@@ -104,10 +101,10 @@ fn part(lines: Vec<Line>) -> Parsed {
     Parsed { header: *header, table, body: lines.collect() }
 }
 
-fn parse_line(text: &[u8]) -> Option<Line> {
+fn parse_line(text: &[u8], limits: Limits) -> Option<Line> {
     let fields: Vec<&[u8]> = text.split(|&byte| byte == b',').collect();
     match fields[..] {
-        [b"S", ref rest @ ..] => parse_header(rest).map(|header| Line::Header(Box::new(header))),
+        [b"S", ref rest @ ..] => Some(Line::Header(Box::new(parse_header(rest, limits)?))),
         [b"T", a, b] => Some(Line::Table(parse_pair(a, b)?)),
         [b"L", a, b] => Some(Line::Load(parse_pair(a, b)?)),
         [b"D"] => Some(Line::Double),
@@ -117,7 +114,7 @@ fn parse_line(text: &[u8]) -> Option<Line> {
     }
 }
 
-fn parse_header(fields: &[&[u8]]) -> Option<Header> {
+fn parse_header(fields: &[&[u8]], limits: Limits) -> Option<Header> {
     let &[kind, m1, m2, slots, additions, doublings, k, l] = fields else {
         return None;
     };
@@ -132,8 +129,8 @@ fn parse_header(fields: &[&[u8]]) -> Option<Header> {
         slots: parse_decimal(slots, 4)?,
         additions: parse_decimal(additions, 4)?,
         doublings: parse_decimal(doublings, 4)?,
-        k: parse_scalar(k)?,
-        l: parse_scalar(l)?,
+        k: parse_scalar(k, limits)?,
+        l: parse_scalar(l, limits)?,
     })
 }
 
@@ -160,17 +157,20 @@ fn parse_decimal(field: &[u8], most: usize) -> Option<usize> {
 }
 
 /// A hexadecimal scalar, with a minus before its figures if negative, never `-0`.
-fn parse_scalar(field: &[u8]) -> Option<Big> {
+fn parse_scalar(field: &[u8], limits: Limits) -> Option<Big> {
+    let most = limits.figures();
     match field.strip_prefix(b"-") {
-        Some(figures) => parse_figures(figures).filter(|size| !size.is_zero()).map(Big::negated),
-        None => parse_figures(field),
+        Some(figures) => {
+            parse_figures(figures, most).filter(|size| !size.is_zero()).map(Big::negated)
+        }
+        None => parse_figures(field, most),
     }
 }
 
-/// A hexadecimal number of 1 to 132 figures with no leading zero.
-fn parse_figures(field: &[u8]) -> Option<Big> {
+/// A hexadecimal number of 1 to `most` figures with no leading zero.
+fn parse_figures(field: &[u8], most: usize) -> Option<Big> {
     let is_figure = |byte: &u8| matches!(byte, b'0'..=b'9' | b'a'..=b'f');
-    let spelled = has_figures(field, LONGEST_SCALAR) && field.iter().all(is_figure);
+    let spelled = has_figures(field, most) && field.iter().all(is_figure);
     spelled.then(|| Big::from_hex(field))
 }
 
@@ -222,8 +222,8 @@ impl Parsed {
         numbered.filter(|(line, _)| matches!(line, Line::Double)).map(|(_, number)| number)
     }
 
-    fn first_double_too_many(&self) -> Option<usize> {
-        self.doubles().nth(MOST_DOUBLES)
+    fn first_double_too_many(&self, limits: Limits) -> Option<usize> {
+        self.doubles().nth(limits.doubles())
     }
 
     fn counts_are_true(&self) -> bool {
@@ -280,9 +280,14 @@ mod tests {
 
     const GOOD: &str = "S,I,1,1,0,2,3,7,2\nL,1,0\nD\nD\nA,0,1\nD\nA,-1,0\nE\n";
 
-    fn check(sheet: &str, number: u32, line: usize) {
+    fn check_by(limits: Limits, sheet: &str, number: u32, line: usize) {
         let expected = if number == 0 { Ok(()) } else { Err(Refusal { number, line }) };
-        assert_eq!(read(sheet.as_bytes()), expected, "{sheet}");
+        assert_eq!(read(sheet.as_bytes(), limits), expected, "{limits}: {sheet}");
+    }
+
+    /// The same answer at the card and at the gateway.
+    fn check(sheet: &str, number: u32, line: usize) {
+        Limits::BOTH.into_iter().for_each(|limits| check_by(limits, sheet, number, line));
     }
 
     #[test]
@@ -292,8 +297,10 @@ mod tests {
 
     #[test]
     fn length_comes_first() {
-        check(&"x".repeat(16_384), 6, 1);
-        check(&"x".repeat(16_385), 5, 0);
+        for limits in Limits::BOTH {
+            check_by(limits, &"x".repeat(limits.sheet()), 6, 1);
+            check_by(limits, &"x".repeat(limits.sheet() + 1), 5, 0);
+        }
     }
 
     #[test]
@@ -327,9 +334,11 @@ mod tests {
         for bad in ["07,2", "7,02", "7,", ",2", "7,G", "7,A", "7,2,", "7,00"] {
             check(&GOOD.replace("7,2\n", &format!("{bad}\n")), 6, 1);
         }
-        let longest = "1".repeat(132);
-        check(&GOOD.replace("7,2\n", &format!("7,{longest}\n")), 11, 1);
-        check(&GOOD.replace("7,2\n", &format!("7,{longest}1\n")), 6, 1);
+        for limits in Limits::BOTH {
+            let longest = "1".repeat(limits.figures());
+            check_by(limits, &GOOD.replace("7,2\n", &format!("7,{longest}\n")), 11, 1);
+            check_by(limits, &GOOD.replace("7,2\n", &format!("7,{longest}1\n")), 6, 1);
+        }
         check(&GOOD.replace("D\nA,0,1\n", "D\r\nA,0,1\n"), 6, 4);
     }
 
@@ -344,11 +353,14 @@ mod tests {
         for field in ["S,I,-1,1,0", "S,I,1,-1,0", "S,I,1,1,-0", "S,-I,1,1,0", "S,I,1,1,0,-2"] {
             check(&GOOD.replace("S,I,1,1,0", field), 6, 1);
         }
-        // The minus is not one of the 132 figures.
-        let longest = "f".repeat(132);
-        check(&GOOD.replace("7,2\n", &format!("-{longest},-{longest}\n")), 11, 1);
-        check(&GOOD.replace("7,2\n", &format!("-{longest}f,2\n")), 6, 1);
-        check(&GOOD.replace("7,2\n", &format!("7,-{longest}f\n")), 6, 1);
+        // The minus is not one of the figures.
+        for limits in Limits::BOTH {
+            let longest = "f".repeat(limits.figures());
+            let with = |pair: String| GOOD.replace("7,2\n", &pair);
+            check_by(limits, &with(format!("-{longest},-{longest}\n")), 11, 1);
+            check_by(limits, &with(format!("-{longest}f,2\n")), 6, 1);
+            check_by(limits, &with(format!("7,-{longest}f\n")), 6, 1);
+        }
     }
 
     #[test]
@@ -403,15 +415,20 @@ mod tests {
 
     #[test]
     fn doubles() {
-        let long = |doubles| {
-            let k = format!("8{}", "0".repeat(131));
+        let long = |figures: usize, doubles: usize| {
+            let k = format!("8{}", "0".repeat(figures - 1));
             let body = "D\n".repeat(doubles);
             format!("S,I,1,1,0,0,{doubles},{k},0\nL,1,0\n{body}E\n")
         };
-        check(&long(527), 0, 0);
-        check(&long(528), 11, 1);
-        check(&long(529), 9, 531);
-        check(&long(700), 9, 531);
+        for limits in Limits::BOTH {
+            let (figures, most) = (limits.figures(), limits.doubles());
+            check_by(limits, &long(figures, most - 1), 0, 0);
+            check_by(limits, &long(figures, most), 11, 1);
+            check_by(limits, &long(figures, most + 1), 9, most + 3);
+            check_by(limits, &long(figures, most + 171), 9, most + 3);
+        }
+        check_by(Limits::Card, &long(133, 531), 6, 1);
+        check_by(Limits::Gateway, &long(133, 531), 0, 0);
     }
 
     #[test]

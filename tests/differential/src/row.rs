@@ -56,6 +56,7 @@ pub fn value(digits: &[i8]) -> Big {
 #[cfg(test)]
 mod tests {
     use super::*;
+    use crate::limits::Limits;
     use crate::random::Random;
     use crate::scalars;
 
@@ -67,7 +68,7 @@ mod tests {
     fn rows_have_the_value_the_digits_and_the_length() {
         let mut random = Random::new(1);
         for _ in 0..300 {
-            let scalar = scalars::random(&mut random).value();
+            let scalar = scalars::random(&mut random, Limits::Gateway).value();
             for m in windows() {
                 let digits = recode(scalar, m);
                 assert_eq!(value(&digits), scalar);
@@ -82,7 +83,8 @@ mod tests {
     fn the_row_of_a_negated_number_is_the_row_negated() {
         let mut random = Random::new(4);
         let small = (0..2000).map(Big::from);
-        let long: Vec<Big> = (0..100).map(|_| scalars::random(&mut random).value()).collect();
+        let long: Vec<Big> =
+            (0..100).map(|_| scalars::random(&mut random, Limits::Gateway).value()).collect();
         for number in small.chain(long) {
             for m in windows() {
                 let negated: Vec<i8> = recode(number, m).iter().map(|digit| -digit).collect();
@@ -95,7 +97,7 @@ mod tests {
     fn window_one_is_non_adjacent() {
         let mut random = Random::new(2);
         for _ in 0..300 {
-            let digits = recode(scalars::random(&mut random).value(), 1);
+            let digits = recode(scalars::random(&mut random, Limits::Gateway).value(), 1);
             assert!(digits.windows(2).all(|two| two[0] == 0 || two[1] == 0));
         }
     }
@@ -104,7 +106,7 @@ mod tests {
     fn full_windows_have_one_digit_in_width_places() {
         let mut random = Random::new(3);
         for _ in 0..300 {
-            let scalar = scalars::random(&mut random).value();
+            let scalar = scalars::random(&mut random, Limits::Gateway).value();
             for w in 2..=6 {
                 let digits = recode(scalar, ((1u32 << (w - 1)) - 1) as u8);
                 assert!(digits.windows(w).all(|places| weight(places) <= 1));

@@ -3,6 +3,7 @@
 
 use crate::answer::Answer;
 use crate::calls::Call;
+use crate::limits::Limits;
 use crate::scalars::Scalar;
 
 /// What a sample says of the answer to its call.
@@ -33,12 +34,13 @@ impl Says {
 
 pub const SEVEN_AND_TWO: &str = "S,I,1,1,0,2,3,7,2\nL,1,0\nD\nD\nA,0,1\nD\nA,-1,0\nE\n";
 
-pub fn all() -> Vec<(Call, Says)> {
+/// The samples; those of the bounds, and sheet buffers, are of these limits.
+pub fn all(limits: Limits) -> Vec<(Call, Says)> {
     let mut samples = rows();
     samples.extend(joint_forms());
     samples.extend(codes());
-    samples.extend(bounds());
-    samples.extend(orders());
+    samples.extend(bounds(limits));
+    samples.extend(orders(limits.sheet()));
     samples.extend(printed_rows());
     samples.extend(printed_joint_forms());
     samples
@@ -88,29 +90,30 @@ fn codes() -> Vec<(Call, Says)> {
     ]
 }
 
-fn bounds() -> Vec<(Call, Says)> {
+fn bounds(limits: Limits) -> Vec<(Call, Says)> {
     let refused = |number| Says::Whole(Answer::refused(number, 0));
+    let (bytes, room) = (limits.bytes(), limits.sheet());
     vec![
-        (row(vec![255; 66], 1), Says::Places(529)),
-        (row(vec![255; 67], 1), refused(1)),
+        (row(vec![255; bytes], 1), Says::Places(limits.places())),
+        (row(vec![255; bytes + 1], 1), refused(1)),
         (row(vec![], 1), refused(1)),
         (row(vec![5], 31), Says::Passes),
         (row(vec![5], 0), refused(2)),
         (row(vec![5], 4), refused(2)),
         (row(vec![5], 33), refused(2)),
-        (cheapest(5, 6, 31, 16_384), Says::Passes),
-        (cheapest(5, 6, 32, 16_384), refused(4)),
-        (cheapest(5, 6, 31, 16_383), refused(3)),
-        (Call::Read { sheet: vec![b'D'; 16_385] }, refused(5)),
+        (cheapest(5, 6, 31, room), Says::Passes),
+        (cheapest(5, 6, 32, room), refused(4)),
+        (cheapest(5, 6, 31, room - 1), refused(3)),
+        (Call::Read { sheet: vec![b'D'; room + 1] }, refused(5)),
     ]
 }
 
-fn orders() -> Vec<(Call, Says)> {
+fn orders(room: usize) -> Vec<(Call, Says)> {
     let seven_and_two = Answer::Sheet { bytes: SEVEN_AND_TWO.as_bytes().to_vec(), additions: 2 };
     vec![
-        (cheapest(3, 0, 1, 16_384), Says::Header("S,I,1,1,0,1,2,3,0")),
-        (cheapest(3, 0, 2, 16_384), Says::Header("S,I,3,1,2,1,1,3,0")),
-        (cheapest(7, 2, 0, 16_384), Says::Whole(seven_and_two)),
+        (cheapest(3, 0, 1, room), Says::Header("S,I,1,1,0,1,2,3,0")),
+        (cheapest(3, 0, 2, room), Says::Header("S,I,3,1,2,1,1,3,0")),
+        (cheapest(7, 2, 0, room), Says::Whole(seven_and_two)),
     ]
 }
 
@@ -164,8 +167,10 @@ mod tests {
 
     #[test]
     fn the_reference_agrees_with_every_sample() {
-        for (call, says) in all() {
-            assert!(says.holds_of(&call.answer()), "{call}");
+        for limits in Limits::BOTH {
+            for (call, says) in all(limits) {
+                assert!(says.holds_of(&call.answer(limits)), "{limits} {call}");
+            }
         }
     }
 
@@ -178,6 +183,6 @@ mod tests {
 
     #[test]
     fn the_printed_sheet_is_accepted() {
-        assert_eq!(reader::read(SEVEN_AND_TWO.as_bytes()), Ok(()));
+        assert_eq!(reader::read(SEVEN_AND_TWO.as_bytes(), Limits::Card), Ok(()));
     }
 }

@@ -1,9 +1,8 @@
-//! Scalars of many kinds, in 1 to 66 bytes, with a sign.
+//! Scalars of many kinds, in as many bytes as the limits allow, with a sign.
 
 use crate::big::Big;
+use crate::limits::Limits;
 use crate::random::Random;
-
-pub const MOST_BYTES: usize = 66;
 
 /// Plus, and four of the numbers that are minus.
 pub const SIGNS: [u32; 5] = [0, 1, 2, 256, u32::MAX];
@@ -62,8 +61,8 @@ fn random_sign(random: &mut Random) -> u32 {
 }
 
 /// A scalar of a random kind and length, with a random sign.
-pub fn random(random: &mut Random) -> Scalar {
-    let bytes = random_bytes(random);
+pub fn random(random: &mut Random, limits: Limits) -> Scalar {
+    let bytes = random_bytes(random, limits);
     signed(random, bytes)
 }
 
@@ -73,11 +72,11 @@ pub fn random_of_length(random: &mut Random, bytes: usize) -> Scalar {
     signed(random, bytes)
 }
 
-fn random_bytes(random: &mut Random) -> Vec<u8> {
+fn random_bytes(random: &mut Random, limits: Limits) -> Vec<u8> {
     let bytes = match random.below(4) {
         0 => random.between(1, 4),
-        1 => MOST_BYTES,
-        _ => random.between(1, MOST_BYTES),
+        1 => limits.bytes(),
+        _ => random.between(1, limits.bytes()),
     };
     bytes_of_length(random, bytes)
 }
@@ -139,15 +138,15 @@ fn flip(scalar: &mut [u8], place: usize) {
 }
 
 /// Two scalars, independent or akin, each with a random sign.
-pub fn random_pair(random: &mut Random) -> (Scalar, Scalar) {
-    let k = random_bytes(random);
+pub fn random_pair(random: &mut Random, limits: Limits) -> (Scalar, Scalar) {
+    let k = random_bytes(random, limits);
     let l = match random.below(8) {
         0 => k.clone(),
         1 => k.iter().map(|byte| !byte).collect(),
         2 => half(&k),
-        3 => vec![0; random.between(1, MOST_BYTES)],
+        3 => vec![0; random.between(1, limits.bytes())],
         4 => bytes_of_length(random, k.len()),
-        _ => random_bytes(random),
+        _ => random_bytes(random, limits),
     };
     let (k, l) = (signed(random, k), signed(random, l));
     if random.once_in(2) {
@@ -168,10 +167,10 @@ fn half(scalar: &[u8]) -> Vec<u8> {
     scalar.iter().map(halve).collect()
 }
 
-/// Zero, one, all ones, the top bit, and random kinds, in every length from 1 to 66 bytes.
-pub fn of_every_length(random: &mut Random) -> Vec<Vec<u8>> {
+/// Zero, one, all ones, the top bit, and random kinds, in every length from 1 byte on.
+pub fn of_every_length(random: &mut Random, limits: Limits) -> Vec<Vec<u8>> {
     let mut scalars = Vec::new();
-    for bytes in 1..=MOST_BYTES {
+    for bytes in 1..=limits.bytes() {
         let zero = vec![0; bytes];
         let (mut one, mut top) = (zero.clone(), zero.clone());
         flip(&mut one, 0);
@@ -183,9 +182,9 @@ pub fn of_every_length(random: &mut Random) -> Vec<Vec<u8>> {
 }
 
 /// The powers of two and their neighbours, each in the fewest bytes.
-pub fn around_powers_of_two() -> Vec<Vec<u8>> {
+pub fn around_powers_of_two(limits: Limits) -> Vec<Vec<u8>> {
     let mut scalars = Vec::new();
-    for place in 0..8 * MOST_BYTES {
+    for place in 0..8 * limits.bytes() {
         let mut power = vec![0; place / 8 + 1];
         flip(&mut power, place);
         let mut above = power.clone();
@@ -202,31 +201,59 @@ pub fn ones(from: usize, to: usize) -> Vec<u8> {
     scalar
 }
 
-/// All ones, or every second bit, below a place: in the fewest bytes, and in 66.
-pub fn patterned() -> Vec<Vec<u8>> {
-    let all_ones = [0, 1, 2, 3, 8, 31, 32, 33, 64, 256, 528].map(|places| (255, places));
-    let every_second = [(85, 256), (170, 256), (85, 527), (170, 528)];
+/// All ones, or every second bit, below a place: in the fewest bytes, and in the most.
+pub fn patterned(limits: Limits) -> Vec<Vec<u8>> {
+    let bits = 8 * limits.bytes();
+    let all_ones = [0, 1, 2, 3, 8, 31, 32, 33, 64, 256, bits].map(|places| (255, places));
+    let every_second = [(85, 256), (170, 256), (85, bits - 1), (170, bits)];
     let mut scalars = Vec::new();
     for (pattern, places) in all_ones.into_iter().chain(every_second) {
         let fewest: Vec<u8> = ones(0, places).iter().map(|byte| byte & pattern).collect();
-        let most = [vec![0; MOST_BYTES - fewest.len()], fewest.clone()].concat();
+        let most = [vec![0; limits.bytes() - fewest.len()], fewest.clone()].concat();
         scalars.extend([fewest, most]);
     }
     scalars
 }
 
+/// Scalars about as long as the card or the gateway takes, and within the limits: all ones, each
+/// second bit, one bit, and ones over the borders of 32-bit words.
+pub fn longest(limits: Limits) -> Vec<Vec<u8>> {
+    let lengths = [65, 66, 67, 127, 128].into_iter().filter(|&bytes| bytes <= limits.bytes());
+    let of_length = |bytes: usize| {
+        let top = 8 * bytes;
+        let words = [32, 64, 288, 512, top - 32, top - 64];
+        let single = [0, 31, 32, 33, 63, 64, top - 33, top - 32, top - 1];
+        let runs =
+            words.into_iter().flat_map(|word| [(word - 1, top), (1, word + 1), (word, top - 1)]);
+        let runs =
+            runs.chain([(0, top - 1), (1, top)]).chain(single.map(|place| (place, place + 1)));
+        let mut scalars = [0xff, 0x55, 0xaa].map(|byte| vec![byte; bytes]).to_vec();
+        scalars.extend(runs.map(|(from, to)| {
+            let ones = ones(from, to);
+            [vec![0; bytes - ones.len()], ones].concat()
+        }));
+        scalars
+    };
+    lengths.flat_map(of_length).collect()
+}
+
 /// A scalar whose row for window 1 has as many digits that are not 0 as any: every second one, from
-/// place 0 to place 528.
-pub fn dense() -> Vec<u8> {
-    let mut scalar = vec![0xaa; MOST_BYTES];
+/// place 0 to the last.
+pub fn dense(limits: Limits) -> Vec<u8> {
+    let mut scalar = vec![0xaa; limits.bytes()];
     flip(&mut scalar, 0);
     scalar
 }
 
-/// Two scalars whose joint form has two columns that are not zero in every three.
-pub fn dense_pair() -> (Vec<u8>, Vec<u8>) {
-    let repeated = |three: [u8; 3]| three.repeat(MOST_BYTES / 3);
-    (repeated([0x24, 0x92, 0x49]), repeated([0x49, 0x24, 0x92]))
+/// Two scalars whose joint form has two columns that are not zero in every three: all but those at
+/// places 2, 5, 8 and so on.
+pub fn dense_pair(limits: Limits) -> (Vec<u8>, Vec<u8>) {
+    let every_third = |first: usize| {
+        let mut scalar = vec![0; limits.bytes()];
+        (first..8 * limits.bytes()).step_by(3).for_each(|place| flip(&mut scalar, place));
+        scalar
+    };
+    (every_third(0), every_third(1))
 }
 
 #[cfg(test)]
@@ -238,11 +265,30 @@ mod tests {
     }
 
     #[test]
-    fn lengths_are_1_to_66() {
+    fn lengths_are_within_the_limits() {
         let mut generator = Random::new(7);
-        for _ in 0..2000 {
-            assert!((1..=MOST_BYTES).contains(&random(&mut generator).bytes.len()));
+        for limits in Limits::BOTH {
+            let mut lengths = (0..2000).map(|_| random(&mut generator, limits).bytes.len());
+            assert!(lengths.all(|bytes| (1..=limits.bytes()).contains(&bytes)));
         }
+    }
+
+    #[test]
+    fn the_longest_are_of_the_lengths_at_the_limits() {
+        let of_length = |limits, bytes| {
+            longest(limits).into_iter().filter(|scalar| scalar.len() == bytes).count()
+        };
+        let counts = |limits| [65, 66, 67, 127, 128].map(|bytes| of_length(limits, bytes));
+        assert_eq!(counts(Limits::Card), [32, 32, 0, 0, 0]);
+        assert_eq!(counts(Limits::Gateway), [32; 5]);
+        assert!(longest(Limits::Gateway).contains(&ones(31, 528)));
+        assert!(longest(Limits::Gateway).contains(&vec![255; 128]));
+    }
+
+    #[test]
+    fn dense_pairs_are_the_three_bytes_over_and_over() {
+        let (k, l) = dense_pair(Limits::Card);
+        assert_eq!((k, l), ([0x24, 0x92, 0x49].repeat(22), [0x49, 0x24, 0x92].repeat(22)));
     }
 
     #[test]
@@ -250,7 +296,7 @@ mod tests {
         for sign in SIGNS {
             let expected = if sign == 0 { 0x107 } else { -0x107 };
             assert_eq!(Scalar::new([1, 7], sign).value(), Big::from(expected));
-            assert_eq!(Scalar::new([0; 66], sign).value(), Big::ZERO);
+            assert_eq!(Scalar::new([0; 128], sign).value(), Big::ZERO);
         }
         assert_eq!(Scalar::minus([7]).value(), Scalar::plus([7]).value().negated());
     }
@@ -260,7 +306,7 @@ mod tests {
         let mut generator = Random::new(8);
         let (mut pairs, mut bits) = ([0; 4], 0);
         for _ in 0..2000 {
-            let (k, l) = random_pair(&mut generator);
+            let (k, l) = random_pair(&mut generator, Limits::Card);
             pairs[usize::from(k.sign != 0) * 2 + usize::from(l.sign != 0)] += 1;
             bits |= if k.sign.is_power_of_two() { k.sign } else { 0 };
         }
@@ -270,8 +316,8 @@ mod tests {
 
     #[test]
     fn neighbours_of_powers() {
-        let scalars = around_powers_of_two();
-        assert_eq!(scalars.len(), 3 * 528);
+        let scalars = around_powers_of_two(Limits::Gateway);
+        assert_eq!(scalars.len(), 3 * 1_024);
         for (place, three) in scalars.chunks(3).enumerate() {
             assert_eq!(value(&three[1]).bit_length(), place + 1);
             assert_eq!(value(&three[0]).plus(1), value(&three[1]));
@@ -282,11 +328,11 @@ mod tests {
 
     #[test]
     fn patterns() {
-        let scalars = patterned();
+        let scalars = patterned(Limits::Gateway);
         assert_eq!(scalars.len(), 30);
         for two in scalars.chunks(2) {
             assert_eq!(value(&two[0]), value(&two[1]));
-            assert_eq!(two[1].len(), MOST_BYTES);
+            assert_eq!(two[1].len(), 128);
         }
         assert_eq!(scalars[10], [0x7f, 255, 255, 255]);
         assert_eq!(scalars[22], [0x55; 32]);

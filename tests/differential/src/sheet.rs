@@ -93,6 +93,7 @@ impl fmt::Display for Sheet {
 #[cfg(test)]
 mod tests {
     use super::*;
+    use crate::limits::Limits;
     use crate::random::Random;
     use crate::{reader, scalars};
 
@@ -126,9 +127,9 @@ mod tests {
     fn every_plan_s_sheet_is_accepted_for_its_signed_pair() {
         let mut random = Random::new(16);
         for plan in Plan::all() {
-            let (k, l) = scalars::random_pair(&mut random);
+            let (k, l) = scalars::random_pair(&mut random, Limits::Gateway);
             let sheet = Sheet::of_plan(plan, k.value(), l.value());
-            assert_eq!(reader::read(&sheet.to_bytes()), Ok(()));
+            assert_eq!(reader::read(&sheet.to_bytes(), Limits::Gateway), Ok(()));
         }
     }
 }

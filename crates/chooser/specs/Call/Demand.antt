@@ -7,13 +7,15 @@ use native.Mathlib.Omega.{arith}
 use lib.IntN.{ℤ, pos, natAbs}
 use lib.ListN.{length, drop}
 use lib.Seq.{take-append-seam}
-use Rattle.digits.specs.Limits.{Limits, card}
+use Rattle.digits.specs.declared.limits.Limits.{Limits}
+use Rattle.digits.specs.Limits.{bits}
 use Rattle.digits.specs.Scalar.{Bytes, scalar, signedScalar, sized}
 use Rattle.digits.specs.Scalar.Signed.{signed-bounded}
 use Rattle.writer.specs.declared.answer.Sheet.{Sheet}
 use Rattle.writer.specs.declared.answer.Sheet.the-variants.{BadScalar, NoRoom, BadLimit}
 use Rattle.sheet.specs.Plan.{isLimit}
 use Rattle.sheet.specs.declared.Plan.{Plan}
+use Rattle.written.specs.Enough.{Enough}
 use Rattle.written.specs.Written.{digits, writtenAdditions, writtenDoublings}
 use Rattle.writer.specs.Call.{number, roomy, wrote, left}
 use Rattle.chooser.specs.declared.call.Choice.the-variants as Choices
@@ -51,22 +53,23 @@ module _ (limits : Limits) (k l : List ℕ) (limit : ℕ) where
 
 -- ── its sheet ───────────────────────────────────────────────────────────────────────────────
 
--- the cheapest sheet is what demand 3 asks for
-pub cheapest-sheet : (k l : ℤ) (limit : ℕ) → natAbs k < 2 ^ 528 → natAbs l < 2 ^ 528
-    → Cheapest (cheapest k l limit) k l limit (writtenAdditions (cheapestPlan k l limit) k l)
-cheapest-sheet k l limit hk hl =
-    let e = additions-of k l limit hk hl in
-    let p = sym (cheapest-plan k l limit hk hl) in
-    record {
-      planned = subst (First k l limit) p (first-plan k l limit);
-      digits-are = cheapest-digits k l limit hk hl ∙ ap (λ (q : Plan). digits q k l) p;
-      accepted = cheapest-accepted k l limit hk hl;
-      within = cheapest-within k l limit hk hl;
-      stated = cheapest-counted k l limit hk hl ∙ e;
-      counted = e;
-      doubled = cheapest-doubled k l limit hk hl ∙ ap (λ (q : Plan). writtenDoublings q k l) p;
-      least = λ t a h. omega (arith, e, cheapest-is-least k l limit hk hl t a h);
-    }
+-- the cheapest sheet is what demand 3 asks for, under any limits that are enough
+module _ (limits : Limits) (enough : Enough limits) where
+  pub cheapest-sheet : (k l : ℤ) (limit : ℕ) → natAbs k < 2 ^ bits limits → natAbs l < 2 ^ bits limits
+      → Cheapest limits (cheapest k l limit) k l limit (writtenAdditions (cheapestPlan k l limit) k l)
+  cheapest-sheet k l limit hk hl =
+      let e = additions-of limits enough k l limit hk hl in
+      let p = sym (cheapest-plan limits enough k l limit hk hl) in
+      record {
+        planned = subst (First k l limit) p (first-plan k l limit);
+        digits-are = cheapest-digits limits enough k l limit hk hl ∙ ap (λ (q : Plan). digits q k l) p;
+        accepted = cheapest-accepted limits enough k l limit hk hl;
+        within = cheapest-within limits enough k l limit hk hl;
+        stated = cheapest-counted limits enough k l limit hk hl ∙ e;
+        counted = e;
+        doubled = cheapest-doubled limits enough k l limit hk hl ∙ ap (λ (q : Plan). writtenDoublings q k l) p;
+        least = λ t a h. omega (arith, e, cheapest-is-least limits enough k l limit hk hl t a h);
+      }
 
 module _ (k : List ℕ) (k-sign : ℕ) (l : List ℕ) (l-sign : ℕ) where
   -- the two signed scalars
@@ -80,21 +83,21 @@ module _ (k : List ℕ) (k-sign : ℕ) (l : List ℕ) (l-sign : ℕ) where
   answer limit a b c = cond a (cond b (cond c (wrote (cheapestPlan x y limit) x y) NoRoom) BadLimit) BadScalar
 
   -- whatever is asked, the answer and the buffer keep the promise
-  pub cheapest-promised : (limit : ℕ) (buffer : List ℕ) → Bytes k → Bytes l
-      → Promised (cheapestAnswer card k k-sign l l-sign limit (length buffer)) (cheapestBuffer card k k-sign l l-sign limit buffer) x y limit
+  pub cheapest-promised : (limits : Limits) → Enough limits → (limit : ℕ) (buffer : List ℕ) → Bytes k → Bytes l
+      → Promised limits (cheapestAnswer limits k k-sign l l-sign limit (length buffer)) (cheapestBuffer limits k k-sign l l-sign limit buffer) x y limit
   unfolding cheapestAnswer cheapestBuffer cheapest answer
-  cheapest-promised limit buffer bk bl = go (sized card k) (sized card l) (isLimit limit) (roomy card (length buffer)) refl refl
+  cheapest-promised limits enough limit buffer bk bl = go (sized limits k) (sized limits l) (isLimit limit) (roomy limits (length buffer)) refl refl
     where
-      go : (a b c d : Bool) → sized card k ≡ a → sized card l ≡ b
-          → Promised (answer limit (a && b) c d) (left (answer limit (a && b) c d) (cheapest x y limit) buffer) x y limit
+      go : (a b c d : Bool) → sized limits k ≡ a → sized limits l ≡ b
+          → Promised limits (answer limit (a && b) c d) (left (answer limit (a && b) c d) (cheapest x y limit) buffer) x y limit
       go false b c d e f = tt
       go true false c d e f = tt
       go true true false d e f = tt
       go true true true false e f = tt
       go true true true true e f =
-          subst (λ (t : List ℕ). Cheapest t x y limit (writtenAdditions (cheapestPlan x y limit) x y))
+          subst (λ (t : List ℕ). Cheapest limits t x y limit (writtenAdditions (cheapestPlan x y limit) x y))
           (sym (take-append-seam (cheapest x y limit) (drop (length (cheapest x y limit)) buffer)))
-          (cheapest-sheet x y limit (signed-bounded k k-sign bk e) (signed-bounded l l-sign bl f))
+          (cheapest-sheet limits enough x y limit (signed-bounded limits k k-sign bk e) (signed-bounded limits l l-sign bl f))
 
   -- the number of the answer is that of the first question missed
   pub cheapest-question : (limits : Limits) (limit room : ℕ) → number (cheapestAnswer limits k k-sign l l-sign limit room) ≡ cheapestQuestion limits k l limit room

@@ -6,7 +6,7 @@ use Prim.Native.Nat.{ℕ, _+_, _*_, _≤_, max}
 use borrow.Author.Tests.{leb-true}
 use lib.Dec.{leb}
 use lib.ListN.{length}
-use Rattle.digits.specs.Limits.{Limits}
+use Rattle.digits.specs.declared.limits.Limits.{Limits}
 use Rattle.digits.specs.Scalar.{signedScalar, sized}
 use Rattle.digits.specs.Scalar.Sized.{both}
 use Rattle.digits.specs.Two.{Column, P, Q}

@@ -4,7 +4,7 @@ use mathlib.Core.List.{List}
 use Prim.Native.Nat.{ℕ, _+_, _*_, max}
 use native.Mathlib.Omega.{arith}
 use lib.ListN.{length}
-use Rattle.digits.specs.Limits.{Limits}
+use Rattle.digits.specs.declared.limits.Limits.{Limits}
 use Rattle.digits.specs.Scalar.{Bytes}
 use Rattle.recode.specs.Call.{roomy, jointAnswer}
 use Rattle.recode.specs.Call.Short.{Short, joint-short}

@@ -10,7 +10,7 @@ use lib.ListN.{length, getD}
 use Rattle.digits.specs.Buffer.{rowBelow}
 use Rattle.digits.specs.Buffer.Read.{column-row}
 use Rattle.digits.specs.Buffer.Zeros.{padded-at}
-use Rattle.digits.specs.Limits.{Limits}
+use Rattle.digits.specs.declared.limits.Limits.{Limits}
 use Rattle.digits.specs.Scalar.{signedScalar, sized}
 use Rattle.digits.specs.Two.{Column, Two, P, Q, other, of}
 use Rattle.forms.specs.Codes.{digits, remainderAt, codes}

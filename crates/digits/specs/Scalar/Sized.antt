@@ -1,14 +1,17 @@
--- What question 1 gives where it is met: 1 to 66 bytes, so a scalar below 2^528. Assumes nothing.
+-- What question 1 gives where it is met: as many bytes as the limits allow at most, so a scalar of so many bits; and wider limits are met where
+-- narrower ones are. Assumes nothing.
 use mathlib.Core.Path.{_≡_}
 use mathlib.Core.Bool.{Bool, true, _&&_, and-eq-true-iff}
 use mathlib.Core.List.{List}
 use Prim.Native.Nat.{ℕ, _^_, _≤_, _<_}
+use native.Mathlib.Nat.{le-trans}
 use lib.Dec.{ltb, leb}
 use lib.ListN.{length}
 use borrow.Author.Tests.{lt-ltb, le-leb, ltb-true, leb-true}
 use Rattle.digits.specs.Scalar.Value.{scalar-bits}
 use Rattle.digits.specs.Scalar.{Bytes}
-use Rattle.digits.specs.Limits.{Limits, card}
+use Rattle.digits.specs.declared.limits.Limits.{Limits}
+use Rattle.digits.specs.Limits.{bits}
 use Rattle.digits.specs.Scalar.{scalar, sized}
 
 pub both : (a b : Bool) → (a && b) ≡ true → (a ≡ true) × (b ≡ true)
@@ -26,5 +29,9 @@ module _ (limits : Limits) (s : List ℕ) where
 pub both-sized : (limits : Limits) (s t : List ℕ) → sized limits s ≡ true → sized limits t ≡ true → (sized limits s && sized limits t) ≡ true
 both-sized limits s t e f = and-eq-true-iff (sized limits s) (sized limits t) .1 (e, f)
 
-pub bounded : (s : List ℕ) → Bytes s → sized card s ≡ true → scalar s < 2 ^ 528
-bounded s h e = scalar-bits s 66 h (some-bytes card s e .1)
+pub bounded : (limits : Limits) (s : List ℕ) → Bytes s → sized limits s ≡ true → scalar s < 2 ^ bits limits
+bounded limits s h e = scalar-bits s (limits .bytes) h (some-bytes limits s e .1)
+
+-- a scalar for narrower limits is one for wider ones
+pub sized-wider : (narrow wide : Limits) (s : List ℕ) → narrow .bytes ≤ wide .bytes → sized narrow s ≡ true → sized wide s ≡ true
+sized-wider narrow wide s h e = let (a, b) = some-bytes narrow s e in bytes-sized wide s (a, le-trans b h)

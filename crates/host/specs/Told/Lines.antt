@@ -8,7 +8,7 @@ use native.Mathlib.Omega.{arith}
 use borrow.Author.Tests.{leb-true}
 use lib.Dec.{eqb, leb, ltb}
 use lib.ListN.{length}
-use Rattle.digits.specs.Limits.{Limits}
+use Rattle.digits.specs.declared.limits.Limits.{Limits}
 use Rattle.sheet.specs.declared.Plan.{Plan}
 use Rattle.sheet.specs.Answer.{Answer, ask, heading, judged, answer}
 use Rattle.sheet.specs.Line.{Header, plan, Line, header, table, load, double, add, end, misspelled}

@@ -1,11 +1,13 @@
--- What a call answers fits the parts that it is told in, whatever was asked: lengths, weights and additions are below 65,536.
+-- What a call answers fits the parts that it is told in, whatever was asked: under the card's limits, and under the gateway's, lengths, weights and
+-- additions are below 65,536.
 use mathlib.Core.Path.{_≡_}
 use mathlib.Core.Bool.{Bool, true, _&&_, cond}
 use mathlib.Core.List.{List}
-use Prim.Native.Nat.{ℕ, _+_, _*_}
+use Prim.Native.Nat.{ℕ, _+_, _^_, _<_}
 use native.Mathlib.Omega.{arith}
 use lib.IntN.{ℤ}
-use Rattle.digits.specs.Limits.{card}
+use Rattle.digits.specs.declared.limits.Limits.{Limits}
+use Rattle.digits.specs.Limits.{card, gateway, bits}
 use Rattle.digits.specs.Missed.{either-way}
 use Rattle.digits.specs.Row.{isWindow}
 use Rattle.digits.specs.Scalar.{Bytes, signedScalar, sized}
@@ -19,6 +21,7 @@ use Rattle.codes.specs.Call.Short.{codes-short}
 use Rattle.sheet.specs.Plan.{isLimit}
 use Rattle.sheet.specs.declared.Plan.{Plan}
 use Rattle.sheet.specs.declared.Plan.the-variants.{J, I}
+use Rattle.written.specs.Enough.{Enough, card-enough, gateway-enough}
 use Rattle.written.specs.Promise.{written-fits, written-few}
 use Rattle.written.specs.Valid.{Valid, forJ}
 use Rattle.writer.specs.Call as Writing
@@ -31,63 +34,79 @@ use Rattle.chooser.specs.Cheapest.{cheapestPlan}
 use Rattle.chooser.specs.Cheapest.Least.{plan-within}
 use Rattle.host.specs.Told.{RecodedFits, SheetFits}
 
--- ── rows and joint forms ────────────────────────────────────────────────────────────────────
+-- limits under which all that is told fits
+pub record Tellable (limits : Limits) : Type 0 where
+  pub enough : Enough limits
+  pub sheet : limits .sheet < 2 ^ 16
 
-short-fits : {r : Recoded} → Short (8 * card .bytes + 1) r → RecodedFits r
-short-fits h = record { length-fits = omega (arith, h .length-most); count-fits = omega (arith, h .length-most, h .weight-most) }
+pub card-tellable : Tellable card
+card-tellable = record { enough = card-enough; sheet = omega arith }
 
-pub row-fits : (s : List ℕ) (sign m places : ℕ) → Bytes s → RecodedFits (rowAnswer card s sign m places)
-row-fits s sign m places h = short-fits (row-short card s sign m places h)
+pub gateway-tellable : Tellable gateway
+gateway-tellable = record { enough = gateway-enough; sheet = omega arith }
 
-pub joint-fits : (k : List ℕ) (k-sign : ℕ) (l : List ℕ) (l-sign : ℕ) (places places′ : ℕ) → Bytes k → Bytes l → RecodedFits (jointAnswer card k k-sign l l-sign places places′)
-joint-fits k k-sign l l-sign places places′ h g = short-fits (joint-short card k k-sign l l-sign places places′ h g)
+module _ (limits : Limits) (tellable : Tellable limits) where
+  -- ── rows and joint forms ──────────────────────────────────────────────────────────────────
 
-pub codes-fits : (k : List ℕ) (k-sign : ℕ) (l : List ℕ) (l-sign : ℕ) (places places′ room room′ : ℕ) → Bytes k → Bytes l → RecodedFits (codesAnswer card k k-sign l l-sign places places′ room room′)
-codes-fits k k-sign l l-sign places places′ room room′ h g = short-fits (codes-short card k k-sign l l-sign places places′ room room′ h g)
+  short-fits : {r : Recoded} → Short (bits limits + 1) r → RecodedFits r
+  short-fits h =
+      let few = tellable .enough .counts in
+      record { length-fits = omega (arith, few, h .length-most); count-fits = omega (arith, few, h .length-most, h .weight-most) }
 
--- ── sheets ──────────────────────────────────────────────────────────────────────────────────
+  pub row-fits : (s : List ℕ) (sign m places : ℕ) → Bytes s → RecodedFits (rowAnswer limits s sign m places)
+  row-fits s sign m places h = short-fits (row-short limits s sign m places h)
 
--- the answer where only the room is left to ask for
-abbrev asked : ℤ → ℤ → Plan → ℕ → Sheet
-asked k l p room = cond (Writing.roomy card room) (wrote p k l) NoRoom
+  pub joint-fits : (k : List ℕ) (k-sign : ℕ) (l : List ℕ) (l-sign : ℕ) (places places′ : ℕ) → Bytes k → Bytes l → RecodedFits (jointAnswer limits k k-sign l l-sign places places′)
+  joint-fits k k-sign l l-sign places places′ h g = short-fits (joint-short limits k k-sign l l-sign places places′ h g)
 
-module _ (k : List ℕ) (k-sign : ℕ) (l : List ℕ) (l-sign : ℕ) (k-bytes : Bytes k) (l-bytes : Bytes l) where
-  -- the two signed scalars
-  abbrev x : ℤ
-  x = signedScalar k k-sign
+  pub codes-fits : (k : List ℕ) (k-sign : ℕ) (l : List ℕ) (l-sign : ℕ) (places places′ room room′ : ℕ) → Bytes k → Bytes l
+      → RecodedFits (codesAnswer limits k k-sign l l-sign places places′ room room′)
+  codes-fits k k-sign l l-sign places places′ room room′ h g = short-fits (codes-short limits k k-sign l l-sign places places′ room room′ h g)
 
-  abbrev y : ℤ
-  y = signedScalar l l-sign
+  -- ── sheets ────────────────────────────────────────────────────────────────────────────────
 
-  asked-fits : {p : Plan} (room : ℕ) → Valid p → (sized card k && sized card l) ≡ true → SheetFits (asked x y p room)
-  asked-fits {p} room v e =
-      let (a, b) = both (sized card k) (sized card l) e in
-      let hk = signed-bounded k k-sign k-bytes a in
-      let hl = signed-bounded l l-sign l-bytes b in
-      either-way SheetFits (Writing.roomy card room) (wrote p x y) NoRoom
-      (λ _. record { length-fits = omega (arith, written-fits p x y v hk hl); count-fits = omega (arith, written-few p x y v hk hl) })
-      (omega arith)
+  -- the answer where only the room is left to ask for
+  abbrev asked : ℤ → ℤ → Plan → ℕ → Sheet
+  asked k l p room = cond (Writing.roomy limits room) (wrote p k l) NoRoom
 
-  -- plan J
-  pub j-fits : (room : ℕ) → SheetFits (jAnswer card k k-sign l l-sign room)
-  unfolding jAnswer
-  j-fits room =
-      either-way SheetFits (sized card k && sized card l) (asked x y J room) BadScalar (λ e. asked-fits room forJ e) (omega arith)
+  module _ (k : List ℕ) (k-sign : ℕ) (l : List ℕ) (l-sign : ℕ) (k-bytes : Bytes k) (l-bytes : Bytes l) where
+    -- the two signed scalars
+    abbrev x : ℤ
+    x = signedScalar k k-sign
 
-  -- plan I
-  pub i-fits : (m1 m2 room : ℕ) → SheetFits (iAnswer card k k-sign l l-sign m1 m2 room)
-  unfolding iAnswer
-  i-fits m1 m2 room =
-      let windows : Bool = isWindow m1 && isWindow m2 in
-      let answer : Sheet = asked x y (I m1 m2) room in
-      either-way SheetFits (sized card k && sized card l) (cond windows answer BadWindow) BadScalar
-      (λ e. either-way SheetFits windows answer BadWindow (λ w. asked-fits room (windows-valid m1 m2 w) e) (omega arith)) (omega arith)
+    abbrev y : ℤ
+    y = signedScalar l l-sign
 
-  -- the cheapest
-  pub cheapest-fits : (limit room : ℕ) → SheetFits (cheapestAnswer card k k-sign l l-sign limit room)
-  unfolding cheapestAnswer
-  cheapest-fits limit room =
-      let answer : Sheet = asked x y (cheapestPlan x y limit) room in
-      either-way SheetFits (sized card k && sized card l) (cond (isLimit limit) answer BadLimit) BadScalar
-      (λ e. either-way SheetFits (isLimit limit) answer BadLimit
-      (λ _. asked-fits room (plan-within x y limit .0) e) (omega arith)) (omega arith)
+    asked-fits : {p : Plan} (room : ℕ) → Valid p → (sized limits k && sized limits l) ≡ true → SheetFits (asked x y p room)
+    asked-fits {p} room v e =
+        let (a, b) = both (sized limits k) (sized limits l) e in
+        let hk = signed-bounded limits k k-sign k-bytes a in
+        let hl = signed-bounded limits l l-sign l-bytes b in
+        let all = tellable .enough in
+        either-way SheetFits (Writing.roomy limits room) (wrote p x y) NoRoom
+        (λ _. record { length-fits = omega (arith, tellable .sheet, written-fits limits all p x y v hk hl); count-fits = omega (arith, all .counts, written-few limits all p x y v hk hl) })
+        (omega arith)
+
+    -- plan J
+    pub j-fits : (room : ℕ) → SheetFits (jAnswer limits k k-sign l l-sign room)
+    unfolding jAnswer
+    j-fits room =
+        either-way SheetFits (sized limits k && sized limits l) (asked x y J room) BadScalar (λ e. asked-fits room forJ e) (omega arith)
+
+    -- plan I
+    pub i-fits : (m1 m2 room : ℕ) → SheetFits (iAnswer limits k k-sign l l-sign m1 m2 room)
+    unfolding iAnswer
+    i-fits m1 m2 room =
+        let windows : Bool = isWindow m1 && isWindow m2 in
+        let answer : Sheet = asked x y (I m1 m2) room in
+        either-way SheetFits (sized limits k && sized limits l) (cond windows answer BadWindow) BadScalar
+        (λ e. either-way SheetFits windows answer BadWindow (λ w. asked-fits room (windows-valid m1 m2 w) e) (omega arith)) (omega arith)
+
+    -- the cheapest
+    pub cheapest-fits : (limit room : ℕ) → SheetFits (cheapestAnswer limits k k-sign l l-sign limit room)
+    unfolding cheapestAnswer
+    cheapest-fits limit room =
+        let answer : Sheet = asked x y (cheapestPlan x y limit) room in
+        either-way SheetFits (sized limits k && sized limits l) (cond (isLimit limit) answer BadLimit) BadScalar
+        (λ e. either-way SheetFits (isLimit limit) answer BadLimit
+        (λ _. asked-fits room (plan-within x y limit .0) e) (omega arith)) (omega arith)

@@ -20,6 +20,7 @@ use Rattle.sheet.specs.Spelling.{comma, cut, readScalar, readDecimal, _>>=_}
 use Rattle.chooser.specs.Call.{Cheapest}
 use Rattle.chooser.specs.Call.Demand.{cheapest-sheet}
 use Rattle.chooser.specs.Cheapest.{cheapestPlan, cheapest}
+use Rattle.written.specs.Enough.{card-enough}
 use Rattle.written.specs.Written.{writtenAdditions}
 use Rattle.order.specs.Order.{Order, lineOf, readFields, readOrder, refusal, answered, printed, Printed, OrderPromised, orderLength, orderBuffer}
 
@@ -93,11 +94,11 @@ module _ (s : List ℕ) where
             λ f. absurd (no-sheet (refusal 4) (o .k) (o .l) (refusal-read .0) (subst (λ (t : List ℕ). Accepted card t (o .k) (o .l)) f (made .accepted))),
             λ (p, f, g). let z : true ≡ false = sym h ∙ ap (λ (x : Order). isLimit (x .slots)) (same p f) ∙ g in let y : _≡_ {A = ℕ} 0 1 = cc in absurd (omega arith),
           );
-          sheet = λ p f g. subst (λ (x : Order). (a : ℕ) × Cheapest (cheapest (o .k) (o .l) (o .slots)) (x .k) (x .l) (x .slots) a) (same p f) (_, made);
+          sheet = λ p f g. subst (λ (x : Order). (a : ℕ) × Cheapest card (cheapest (o .k) (o .l) (o .slots)) (x .k) (x .l) (x .slots) a) (same p f) (_, made);
         }
       where
-        made : Cheapest (cheapest (o .k) (o .l) (o .slots)) (o .k) (o .l) (o .slots) (writtenAdditions (cheapestPlan (o .k) (o .l) (o .slots)) (o .k) (o .l))
-        made = let (k, l) = order-below s o e in cheapest-sheet (o .k) (o .l) (o .slots) k l
+        made : Cheapest card (cheapest (o .k) (o .l) (o .slots)) (o .k) (o .l) (o .slots) (writtenAdditions (cheapestPlan (o .k) (o .l) (o .slots)) (o .k) (o .l))
+        made = let (k, l) = order-below s o e in cheapest-sheet card card-enough (o .k) (o .l) (o .slots) k l
 
     order-printed : (b : Bool) → isLimit (o .slots) ≡ b → Printed s (cond b (cheapest (o .k) (o .l) (o .slots)) (refusal 4))
     order-printed true h = sheet-printed h

@@ -7,7 +7,7 @@ use borrow.Author.Tests.{le-leb, lt-leb}
 use lib.IntN.{ℤ}
 use lib.ListN.{length}
 use Rattle.digits.specs.Column as Columns
-use Rattle.digits.specs.Limits.{Limits}
+use Rattle.digits.specs.declared.limits.Limits.{Limits}
 use Rattle.digits.specs.Scalar.{signedScalar, sized}
 use Rattle.digits.specs.Two.{Two, P, Q, two}
 use Rattle.forms.specs.Joint.{joint}

@@ -5,7 +5,7 @@ use mathlib.Core.List.{List}
 use Prim.Native.Nat.{ℕ, _+_, _*_, _≤_, _<_}
 use borrow.Author.Tests.{le-leb, lt-leb}
 use lib.ListN.{length}
-use Rattle.digits.specs.Limits.{Limits}
+use Rattle.digits.specs.declared.limits.Limits.{Limits}
 use Rattle.digits.specs.Row.{isWindow}
 use Rattle.digits.specs.Scalar.{signedScalar, sized}
 use Rattle.forms.specs.Row.{row}

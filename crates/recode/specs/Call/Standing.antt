@@ -10,7 +10,7 @@ use lib.IntN.{ℤ}
 use Rattle.digits.specs.Buffer.{rowBelow}
 use Rattle.digits.specs.Buffer.Read.{row-read, columns-read}
 use Rattle.digits.specs.Column as Columns
-use Rattle.digits.specs.Limits.{Limits}
+use Rattle.digits.specs.declared.limits.Limits.{Limits}
 use Rattle.digits.specs.Row.{isWindow, value, weight}
 use Rattle.digits.specs.Row.Window.{window-parts}
 use Rattle.digits.specs.Scalar.{signedScalar, sized}

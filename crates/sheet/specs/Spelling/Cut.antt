@@ -6,7 +6,7 @@ use mathlib.Core.List.{List, [], _∷_, _++_}
 use Prim.Native.Nat.{ℕ}
 use lib.Dec.{eqb}
 use borrow.Author.Tests.{eq-eqb, ne-eqb}
-use Rattle.digits.specs.Limits.{Limits}
+use Rattle.digits.specs.declared.limits.Limits.{Limits}
 use Rattle.sheet.specs.Every.{Every, empty, more}
 use Rattle.sheet.specs.Line.{misspelled}
 use Rattle.sheet.specs.Spelling.{lineFeed, join, push, cut, readLine, readLines, lines}

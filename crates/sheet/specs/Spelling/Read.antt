@@ -12,7 +12,7 @@ use lib.ListN.{length, getD, drop, drop-of-length-le}
 use lib.Seq.{drop-cons}
 use lib.IntN.{ℤ}
 use borrow.Author.Tests.{eqb-true}
-use Rattle.digits.specs.Limits.{Limits}
+use Rattle.digits.specs.declared.limits.Limits.{Limits}
 use Rattle.sheet.specs.Plan.{Point, point, tables}
 use Rattle.sheet.specs.Numeral.{numeral, number}
 use Rattle.sheet.specs.Numeral.Read.{numeral-number}
@@ -86,17 +86,17 @@ point-read fs c t h l n e =
     rw (digit-read (getD fs 1 []) (t .p) (m .0), digit-read (getD fs 2 []) (t .q) (m .1), sym (letter-of (getD fs 0 []) c h l))
     (fields-from 0 3 fs n)
 
-record HeaderMade (kd : Option Kind) (m1 m2 sl ad db : Option ℕ) (k l : Option ℤ) (h : Header) : Type 0 where
-  made-kind : kd ≡ some (h .kind)
-  made-m1 : m1 ≡ some (h .m1)
-  made-m2 : m2 ≡ some (h .m2)
-  made-slots : sl ≡ some (h .slots)
-  made-additions : ad ≡ some (h .additions)
-  made-doublings : db ≡ some (h .doublings)
-  made-k : k ≡ some (h .k)
-  made-l : l ≡ some (h .l)
+pub record HeaderMade (kd : Option Kind) (m1 m2 sl ad db : Option ℕ) (k l : Option ℤ) (h : Header) : Type 0 where
+  pub made-kind : kd ≡ some (h .kind)
+  pub made-m1 : m1 ≡ some (h .m1)
+  pub made-m2 : m2 ≡ some (h .m2)
+  pub made-slots : sl ≡ some (h .slots)
+  pub made-additions : ad ≡ some (h .additions)
+  pub made-doublings : db ≡ some (h .doublings)
+  pub made-k : k ≡ some (h .k)
+  pub made-l : l ≡ some (h .l)
 
-header-made : (kd : Option Kind) (m1 m2 sl ad db : Option ℕ) (k l : Option ℤ) (h : Header)
+pub header-made : (kd : Option Kind) (m1 m2 sl ad db : Option ℕ) (k l : Option ℤ) (h : Header)
     → (kd >>= λ a. m1 >>= λ b. m2 >>= λ c. sl >>= λ d. ad >>= λ f. db >>= λ g. k >>= λ x. l >>= λ y.
     some (record { kind = a; m1 = b; m2 = c; slots = d; additions = f; doublings = g; k = x; l = y })) ≡ some h
     → HeaderMade kd m1 m2 sl ad db k l h
@@ -248,7 +248,7 @@ read-spelled limits s e = parts-read limits (cut lineFeed s) e ∙ join-cut line
 -- ── sheets ──────────────────────────────────────────────────────────────────────────────────
 
 -- the lines of a sheet that is laid out are spelled
-abbrev Spelled : Line → Type 0
+abbrev pub Spelled : Line → Type 0
 Spelled l = l ≢ misspelled
 
 header-spelled : (h : Header) → Spelled (header h)
@@ -283,7 +283,7 @@ steps-spelled [] nothing = end-spelled
 steps-spelled [] (loaded t ms) = more (load-spelled t) (moves-spelled ms)
 steps-spelled (t ∷ ts) st = more (table-spelled t) (steps-spelled ts st)
 
-sheet-spelled : (h : Header) (ts : List Point) (st : Steps) → Every Spelled (sheetLines h ts st)
+pub sheet-spelled : (h : Header) (ts : List Point) (st : Steps) → Every Spelled (sheetLines h ts st)
 unfolding sheetLines
 sheet-spelled h ts st = more (header-spelled h) (steps-spelled ts st)
 

@@ -11,7 +11,7 @@ use lib.Dec.{ltb}
 use lib.ListN.{getD}
 use lib.IntN.{ℤ, pos, negsuc, natAbs}
 use borrow.Author.Tests.{ltb-true}
-use Rattle.digits.specs.Limits.{Limits}
+use Rattle.digits.specs.declared.limits.Limits.{Limits}
 use Rattle.sheet.specs.Plan.{Point}
 use Rattle.sheet.specs.Numeral.{worth, numeral, figures, number}
 use Rattle.sheet.specs.Numeral.Read.{number-numeral, numeral-figures}

@@ -5,7 +5,7 @@ use mathlib.Core.Option.{none, some}
 use Prim.Native.Nat.{ℕ, _+_}
 use lib.IntN.{pos}
 use Rattle.digits.specs.Two.{Two}
-use Rattle.digits.specs.Limits.{card}
+use Rattle.digits.specs.declared.limits.Limits.{Limits}
 use Rattle.sheet.specs.declared.Plan.{Plan}
 use Rattle.sheet.specs.Line.{Header, Line, plan, header}
 use Rattle.sheet.specs.Questions.{misplaced, offPlan, disallowed, excess, additions, doublings}
@@ -30,13 +30,13 @@ abbrev pub Scanned : Plan → State → List Line → scan.Scan → Type 0
 Scanned plan s ls (scan.the-variants.Met r) = Reached plan s ls r
 Scanned plan s ls (scan.the-variants.Misplaced n) = misplacedFrom s ls ≡ some n
 
--- at the end of the lines, the limbs hold what these come to
-abbrev pub Summed : Two → State → List Line → scan.Scan → List ℕ → Type 0
-Summed r s ls (scan.the-variants.Met t) xs = Holds most xs (total r (s .places) (pos 0) ls)
-Summed r s ls (scan.the-variants.Misplaced n) xs = Unit {0}
+-- at the end of the lines, c limbs hold what these come to
+abbrev pub Summed : ℕ → Two → State → List Line → scan.Scan → List ℕ → Type 0
+Summed c r s ls (scan.the-variants.Met t) xs = Holds c most xs (total r (s .places) (pos 0) ls)
+Summed c r s ls (scan.the-variants.Misplaced n) xs = Unit {0}
 
 -- the lines have a header, and to the questions 7 to 10 they answer what the state r holds
-pub record Answered (ls : List Line) (head : header-of.Header) (r : State) : Type 0 where
+pub record Answered (limits : Limits) (ls : List Line) (head : header-of.Header) (r : State) : Type 0 where
   pub h : Header
   pub rest : List Line
   pub is : ls ≡ header h ∷ rest
@@ -44,7 +44,7 @@ pub record Answered (ls : List Line) (head : header-of.Header) (r : State) : Typ
   pub misplaced : misplaced ls ≡ none
   pub offPlan : offPlan h ls ≡ found (r .tables .fault)
   pub disallowed : disallowed (plan h) ls ≡ found (r .steps .fault)
-  pub excess : excess card ls ≡ found (r .doubles .fault)
+  pub excess : excess limits ls ≡ found (r .doubles .fault)
   pub additions : additions ls ≡ r .additions
   pub doublings : doublings ls ≡ r .doublings
 

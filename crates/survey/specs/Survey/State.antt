@@ -6,7 +6,7 @@ use mathlib.Core.Option.{Option, none, some}
 use Prim.Native.Nat.{ℕ, zero, suc, _+_, _-_, _*_, _%_, _≤_}
 use lib.Dec.{eqb, leb}
 use lib.ListN.{drop}
-use Rattle.digits.specs.Limits.{card}
+use Rattle.digits.specs.declared.limits.Limits.{Limits}
 use Rattle.sheet.specs.declared.Plan.{Plan}
 use Rattle.sheet.specs.Plan.{Point, slots, tables, tableDoublings}
 use Rattle.sheet.specs.Line as spec
@@ -102,15 +102,15 @@ planFor h = planOf (kindOf (h .joint)) (h .m1) (h .m2)
 abbrev pub isOnPlan : header-of.Header → Bool
 isOnPlan h = windowed (kindOf (h .joint)) (h .m1) (h .m2) && eqb (h .slots) (slots (planFor h))
 
--- the D lines that a plan and a header's doublings leave: 0 where they are negative or too many
-abbrev pub claimedOf : Plan → ℕ → ℕ
-claimedOf plan n = cond (leb (n - tableDoublings plan) (card .doublings)) (n - tableDoublings plan) 0
+-- the D lines that a plan and a header's doublings leave: 0 where they are negative or more than `most`
+abbrev pub claimedOf : ℕ → Plan → ℕ → ℕ
+claimedOf most plan n = cond (leb (n - tableDoublings plan) most) (n - tableDoublings plan) 0
 
-abbrev pub claimed : header-of.Header → ℕ
-claimed h = claimedOf (planFor h) (h .doublings)
+abbrev pub claimed : Limits → header-of.Header → ℕ
+claimed limits h = claimedOf (limits .doublings) (planFor h) (h .doublings)
 
-abbrev pub claimedBy : spec.Header → ℕ
-claimedBy h = claimedOf (spec.plan h) (h .doublings)
+abbrev pub claimedBy : Limits → spec.Header → ℕ
+claimedBy limits h = claimedOf (limits .doublings) (spec.plan h) (h .doublings)
 
 -- the lines that may stand next
 abbrev pub isBehindHeader : Line → Bool
@@ -161,13 +161,12 @@ disallowedIn plan s ls = earlier (found (s .steps .fault)) (disallowedFrom plan 
 abbrev pub excessIn : State → List spec.Line → Option ℕ
 excessIn s ls = earlier (found (s .doubles .fault)) (excessFrom (s .doubles .left) (s .line) ls)
 
--- the counts are at most those of the lines, of which a sheet has few, and the D lines to come are within the limit
+-- the counts are at most those of the lines, of which a sheet has few
 pub record Counted (s : State) : Type 0 where
   pub few : s .line ≤ 100000
   pub tables : s .tables .count ≤ s .line
   pub additions : s .additions ≤ s .line
   pub doublings : s .doublings ≤ s .line
-  pub places : s .places ≤ card .doublings
 
 -- what the state r says of the lines ls is what the state s says of l and ls
 pub record Follows (plan : Plan) (s : State) (l : spec.Line) (r : State) : Type 0 where
@@ -184,16 +183,16 @@ pub record Follows (plan : Plan) (s : State) (l : spec.Line) (r : State) : Type 
   pub places : r .places ≡ placesAfter (s .places) l
 
 -- the state r behind the header
-pub record Behind (h : spec.Header) (r : State) : Type 0 where
+pub record Behind (limits : Limits) (h : spec.Header) (r : State) : Type 0 where
   pub line : r .line ≡ 2
   pub counted : Counted r
   pub misplaced : (ls : List spec.Line) → misplacedFrom r ls ≡ misplaced (header h ∷ ls)
   pub offPlan : (ls : List spec.Line) → offPlanFrom (spec.plan h) r ls ≡ offPlan h (header h ∷ ls)
   pub disallowed : (ls : List spec.Line) → disallowedIn (spec.plan h) r ls ≡ disallowed (spec.plan h) (header h ∷ ls)
-  pub excess : (ls : List spec.Line) → excessIn r ls ≡ excess card (header h ∷ ls)
+  pub excess : (ls : List spec.Line) → excessIn r ls ≡ excess limits (header h ∷ ls)
   pub additions : (ls : List spec.Line) → r .additions + additions ls ≡ additions (header h ∷ ls)
   pub doublings : (ls : List spec.Line) → r .doublings + doublings ls ≡ doublings (header h ∷ ls)
-  pub places : r .places ≡ claimedBy h
+  pub places : r .places ≡ claimedBy limits h
 
-abbrev pub Begins : header-of.Header → State → Type 0
-Begins head r = (h : spec.Header) → head ≡ codedHeader h → Behind h r
+abbrev pub Begins : Limits → header-of.Header → State → Type 0
+Begins limits head r = (h : spec.Header) → head ≡ codedHeader h → Behind limits h r

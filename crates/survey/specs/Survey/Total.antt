@@ -34,4 +34,4 @@ total r n z (l ∷ ls) = total r (placesAfter n l) (sumAfter r n z l) ls
 
 -- the limbs ys hold what xs hold and the line adds
 abbrev pub Adds : Two → ℕ → Line → List ℕ → List ℕ → Type 0
-Adds r n l xs ys = (m : ℕ) (z : ℤ) → Holds m xs z → Holds (suc m) ys (sumAfter r n z l)
+Adds r n l xs ys = (c m : ℕ) (z : ℤ) → Holds c m xs z → Holds c (suc m) ys (sumAfter r n z l)

@@ -7,7 +7,8 @@ use lib.IntN.{ℤ, pos, natAbs}
 use lib.ListN.{length, set, getD}
 use lib.Seq.{sets}
 use Rattle.digits.specs.Byte.{signed}
-use Rattle.digits.specs.Limits.{card}
+use Rattle.digits.specs.declared.limits.Limits.{Limits}
+use Rattle.digits.specs.Limits.{gateway, bits}
 use Rattle.digits.specs.Two.{Column, blankColumn}
 use Rattle.sheet.specs.declared.Plan.{Plan}
 use Rattle.sheet.specs.Digits.{weight}
@@ -15,8 +16,9 @@ use Rattle.sheet.specs.Line.{Header, table}
 use Rattle.sheet.specs.Numeral.{figure, numeral}
 use Rattle.sheet.specs.Plan.{Point, point, stored, odds, multiples}
 use Rattle.sheet.specs.Spelling.{comma, lineFeed, scalar, digit, kind, spell}
+use Rattle.written.specs.Enough.{Enough}
 use Rattle.written.specs.Valid.{Valid}
-use Rattle.written.specs.Written.{digits}
+use Rattle.written.specs.Written.{digits, written}
 
 -- the bytes were put at a place, and `next` is the place behind them
 pub record Put (before after : List ℕ) (at next : ℕ) (bytes : List ℕ) : Type 0 where
@@ -93,17 +95,26 @@ headerBytes h = lettersOf (kind (h .kind)) ++ (decimalsOf (h .m1) (h .m2) (h .sl
 pub record Holds (p q : List ℕ) (cs : List Column) : Type 0 where
   pub columns : (i : ℕ) → columnAt p q i ≡ getD cs i blankColumn
 
--- a number that a scalar of 66 bytes can have
+-- a number that the widest scalar can have
 unfoldable pub Bounded : ℤ → Type 0
-Bounded z = natAbs z < 2 ^ 528
+Bounded z = natAbs z < 2 ^ bits gateway
 
--- all that the writer needs: a valid plan, scalars of 66 bytes, the rows that hold their digits, how many places these have, what the plan
--- counts of them, and room for a sheet
+-- limits that the calls for a sheet can serve with rows of so many places: enough for their own scalars, none of which is too wide
+pub record Served (limits : Limits) (p-places q-places : ℕ) : Type 0 where
+  pub enough : Enough limits
+  pub narrow : limits .bytes ≤ gateway .bytes
+  pub p-room : bits limits + 1 ≤ p-places
+  pub q-room : bits limits + 1 ≤ q-places
+
+-- all that the writer needs: a valid plan, scalars that are not too wide, the rows that hold their digits, how many places these have, what
+-- the plan counts of them, and room for the sheet
 pub record Ready (plan : Plan) (k l : ℤ) (p q : List ℕ) (places counted : ℕ) (out : List ℕ) : Type 0 where
   pub valid : Valid plan
   pub k-bounded : Bounded k
   pub l-bounded : Bounded l
   pub held : Holds p q (digits plan k l)
   pub long : places ≡ length (digits plan k l)
+  pub p-long : places ≤ length p
+  pub q-long : places ≤ length q
   pub heavy : counted ≡ weight plan (digits plan k l)
-  pub room : card .sheet ≤ length out
+  pub room : length (written plan k l) ≤ length out

@@ -1,4 +1,4 @@
--- What the calls for a sheet answer and leave keeps the promise, whatever was asked, and the answer's number is that of the first question
+-- What the calls for a sheet answer and leave keeps the promise under limits that are enough, whatever was asked, and the answer's number is that of the first question
 -- missed. From the laws of written sheets.
 use mathlib.Core.Path.{_≡_, refl, sym, subst}
 use mathlib.Core.Bool.{Bool, true, false, _&&_, cond}
@@ -9,11 +9,13 @@ use lib.ListN.{length, drop}
 use lib.Seq.{take-append-seam}
 use Rattle.digits.specs.Scalar.Signed.{signed-bounded}
 use Rattle.digits.specs.Scalar.Sized.{both}
-use Rattle.digits.specs.Limits.{Limits, card}
+use Rattle.digits.specs.declared.limits.Limits.{Limits}
+use Rattle.digits.specs.Limits.{bits}
 use Rattle.digits.specs.Row.{isWindow}
 use Rattle.digits.specs.Scalar.{Bytes, signedScalar, sized}
 use Rattle.sheet.specs.declared.Plan.{Plan}
 use Rattle.sheet.specs.declared.Plan.the-variants.{J, I}
+use Rattle.written.specs.Enough.{Enough}
 use Rattle.written.specs.Promise.{written-accepted, written-slots, written-counted}
 use Rattle.written.specs.Valid.{Valid, forJ}
 use Rattle.written.specs.Written.{written}
@@ -22,70 +24,73 @@ use Rattle.writer.specs.declared.answer.Sheet.the-variants.{BadScalar, B
 use Rattle.writer.specs.Call.{number, roomy, wrote, left, Promised, SheetPromised, jQuestion, jAnswer, jBuffer, iQuestion, iAnswer, iBuffer}
 use Rattle.writer.specs.Call.Met.{windows-valid}
 
--- both numbers are below 2^528 in size
-abbrev Small : ℤ → ℤ → Type 0
-Small k l = (natAbs k < 2 ^ 528) × (natAbs l < 2 ^ 528)
+module _ (limits : Limits) (enough : Enough limits) where
+  -- both numbers have no more bits than the limits allow
+  abbrev Small : ℤ → ℤ → Type 0
+  Small k l = (natAbs k < 2 ^ bits limits) × (natAbs l < 2 ^ bits limits)
 
-module _ (p : Plan) (k l : ℤ) (buffer : List ℕ) where
-  -- the answer by room alone
-  roomed : Bool → Sheet
-  roomed c = cond c (wrote p k l) NoRoom
+  module _ (p : Plan) (k l : ℤ) (buffer : List ℕ) where
+    -- the answer by room alone
+    roomed : Bool → Sheet
+    roomed c = cond c (wrote p k l) NoRoom
 
-  room-promised : (c : Bool) → Valid p → Small k l → SheetPromised p k l (roomed c) (left (roomed c) (written p k l) buffer)
-  unfolding roomed
-  room-promised true v (hk, hl) =
-      subst (Promised p k l _) (sym (take-append-seam (written p k l) (drop (length (written p k l)) buffer)))
-      (record {
-        accepted = written-accepted p k l v hk hl;
-        additions-are = written-counted p k l v hk hl;
-        slots-are = written-slots p k l v hk hl;
-      })
-  room-promised false v h = tt
+    room-promised : (c : Bool) → Valid p → Small k l → SheetPromised limits p k l (roomed c) (left (roomed c) (written p k l) buffer)
+    unfolding roomed
+    room-promised true v (hk, hl) =
+        subst (Promised limits p k l _) (sym (take-append-seam (written p k l) (drop (length (written p k l)) buffer)))
+        (record {
+          accepted = written-accepted limits enough p k l v hk hl;
+          additions-are = written-counted limits enough p k l v hk hl;
+          slots-are = written-slots limits enough p k l v hk hl;
+        })
+    room-promised false v h = tt
 
-module _ (k : List ℕ) (k-sign : ℕ) (l : List ℕ) (l-sign : ℕ) where
-  -- the two signed scalars
-  abbrev x : ℤ
-  x = signedScalar k k-sign
+  module _ (k : List ℕ) (k-sign : ℕ) (l : List ℕ) (l-sign : ℕ) (buffer : List ℕ) (k-bytes : Bytes k) (l-bytes : Bytes l) where
+    -- the two signed scalars
+    abbrev x : ℤ
+    x = signedScalar k k-sign
 
-  abbrev y : ℤ
-  y = signedScalar l l-sign
+    abbrev y : ℤ
+    y = signedScalar l l-sign
 
-  module _ (buffer : List ℕ) (k-bytes : Bytes k) (l-bytes : Bytes l) where
-    small : (sized card k && sized card l) ≡ true → Small x y
-    small e = let (a, b) = both (sized card k) (sized card l) e in (signed-bounded k k-sign k-bytes a, signed-bounded l l-sign l-bytes b)
+    small : (sized limits k && sized limits l) ≡ true → Small x y
+    small e =
+        let (a, b) = both (sized limits k) (sized limits l) e in
+        (signed-bounded limits k k-sign k-bytes a, signed-bounded limits l l-sign l-bytes b)
 
     -- plan J
-    pub j-promised : SheetPromised J x y (jAnswer card k k-sign l l-sign (length buffer)) (jBuffer card k k-sign l l-sign buffer)
+    pub j-promised : SheetPromised limits J x y (jAnswer limits k k-sign l l-sign (length buffer)) (jBuffer limits k k-sign l l-sign buffer)
     unfolding jAnswer jBuffer roomed
-    j-promised = go (sized card k && sized card l) small
+    j-promised = go (sized limits k && sized limits l) small
       where
         answer : Bool → Sheet
-        answer a = cond a (roomed J x y buffer (roomy card (length buffer))) BadScalar
+        answer a = cond a (roomed J x y buffer (roomy limits (length buffer))) BadScalar
 
-        go : (a : Bool) → (a ≡ true → Small x y) → SheetPromised J x y (answer a) (left (answer a) (written J x y) buffer)
-        go true h = room-promised J x y buffer (roomy card (length buffer)) forJ (h refl)
+        go : (a : Bool) → (a ≡ true → Small x y) → SheetPromised limits J x y (answer a) (left (answer a) (written J x y) buffer)
+        go true h = room-promised J x y buffer (roomy limits (length buffer)) forJ (h refl)
         go false h = tt
 
     -- plan I
-    pub i-promised : (m1 m2 : ℕ) → SheetPromised (I m1 m2) x y (iAnswer card k k-sign l l-sign m1 m2 (length buffer)) (iBuffer card k k-sign l l-sign m1 m2 buffer)
+    pub i-promised : (m1 m2 : ℕ) → SheetPromised limits (I m1 m2) x y (iAnswer limits k k-sign l l-sign m1 m2 (length buffer)) (iBuffer limits k k-sign l l-sign m1 m2 buffer)
     unfolding iAnswer iBuffer roomed
-    i-promised m1 m2 = go (sized card k && sized card l) (isWindow m1 && isWindow m2) small (windows-valid m1 m2)
+    i-promised m1 m2 = go (sized limits k && sized limits l) (isWindow m1 && isWindow m2) small (windows-valid m1 m2)
       where
         answer : Bool → Bool → Sheet
-        answer a b = cond a (cond b (roomed (I m1 m2) x y buffer (roomy card (length buffer))) BadWindow) BadScalar
+        answer a b = cond a (cond b (roomed (I m1 m2) x y buffer (roomy limits (length buffer))) BadWindow) BadScalar
 
         go : (a b : Bool) → (a ≡ true → Small x y) → (b ≡ true → Valid (I m1 m2))
-            → SheetPromised (I m1 m2) x y (answer a b) (left (answer a b) (written (I m1 m2) x y) buffer)
-        go true true h v = room-promised (I m1 m2) x y buffer (roomy card (length buffer)) (v refl) (h refl)
+            → SheetPromised limits (I m1 m2) x y (answer a b) (left (answer a b) (written (I m1 m2) x y) buffer)
+        go true true h v = room-promised (I m1 m2) x y buffer (roomy limits (length buffer)) (v refl) (h refl)
         go true false h v = tt
         go false b h v = tt
 
+module _ (k : List ℕ) (k-sign : ℕ) (l : List ℕ) (l-sign : ℕ) where
   -- the numbers
   pub j-question : (limits : Limits) (room : ℕ) → number (jAnswer limits k k-sign l l-sign room) ≡ jQuestion limits k l room
   unfolding jAnswer
   j-question limits room = go (sized limits k) (sized limits l) (roomy limits room)
     where
-      go : (a b c : Bool) → number (cond (a && b) (cond c (wrote J x y) NoRoom) BadScalar) ≡ cond a (cond b (cond c 0 3) 1) 1
+      go : (a b c : Bool) → number (cond (a && b) (cond c (wrote J (signedScalar k k-sign) (signedScalar l l-sign)) NoRoom) BadScalar) ≡ cond a (cond b (cond c 0 3) 1) 1
       go true true true = refl
       go true true false = refl
       go true false c = refl
@@ -96,7 +101,7 @@ module _ (k : List ℕ) (k-sign : ℕ) (l : List ℕ) (l-sign : ℕ) where
   i-question limits m1 m2 room = go (sized limits k) (sized limits l) (isWindow m1) (isWindow m2) (roomy limits room)
     where
       go : (a b c d e : Bool)
-          → number (cond (a && b) (cond (c && d) (cond e (wrote (I m1 m2) x y) NoRoom) BadWindow) BadScalar) ≡ cond a (cond b (cond c (cond d (cond e 0 3) 2) 2) 1) 1
+          → number (cond (a && b) (cond (c && d) (cond e (wrote (I m1 m2) (signedScalar k k-sign) (signedScalar l l-sign)) NoRoom) BadWindow) BadScalar) ≡ cond a (cond b (cond c (cond d (cond e 0 3) 2) 2) 1) 1
       go true true true true true = refl
       go true true true true false = refl
       go true true true false e = refl

@@ -3,12 +3,12 @@
 use mathlib.Core.Path.{_≡_, refl, sym, ap, ap₂, subst, _∙_}
 use mathlib.Core.List.{List, [], _∷_, _++_, map}
 use Prim.Native.Nat.{ℕ, _+_, _*_, _-_, _^_, _≤_, _<_}
-use native.Mathlib.Nat.{le-refl}
 use native.Mathlib.Omega.{arith}
 use lib.IntN.{ℤ, pos, natAbs}
 use lib.ListN.{length}
 use Rattle.digits.specs.Scalar.Length.{length-least}
-use Rattle.digits.specs.Limits.{Limits, card}
+use Rattle.digits.specs.declared.limits.Limits.{Limits}
+use Rattle.digits.specs.Limits.{bits}
 use Rattle.digits.specs.Row.{value}
 use Rattle.digits.specs.Two.{Column, P, Q}
 use Rattle.sheet.specs.declared.Plan.{Plan}
@@ -27,20 +27,12 @@ use Rattle.sheet.specs.Sound.{Steps, stepLines, sheetLines, Windows, Allowed, S
 use Rattle.sheet.specs.Sound as Sounds
 use Rattle.sheet.specs.Spelling.Spelled.{ShortHeader, spelled-read}
 use Rattle.sheet.specs.Spelling.{lines}
+use Rattle.written.specs.Enough.{Enough}
 use Rattle.written.specs.Written.{digits, stepsOf, kindOf, first, second, heading, linesWith, writtenLines, writtenAdditions, writtenDoublings, written}
 use Rattle.written.specs.Written.Columns.{digits-fit, digits-value, digits-top, digits-length, digits-signs}
 use Rattle.written.specs.Valid.{Valid, forJ, forI}
 use Rattle.written.specs.Written.Stepping.{Stepped, steps-of}
 use Rattle.written.specs.Written.Lengths.{sheet-short, sheet-bytes}
-
--- limits that are enough for scalars of b bits
-pub record Enough (limits : Limits) (b : ℕ) : Type 0 where
-  pub some-figures : 1 ≤ limits .figures
-  pub scalars : 2 ^ b ≤ 16 ^ limits .figures
-  pub doubles : b ≤ limits .doublings
-  -- the counts have at most four figures
-  pub counts : 2 * b + 32 < 10000
-  pub bytes : 22 * b + 2 * limits .figures + 385 ≤ limits .sheet
 
 -- the plan of the header is the plan, and its windows are good ones
 plan-heading : (p : Plan) (a d : ℕ) (k l : ℤ) → plan (heading p a d k l) ≡ p
@@ -134,12 +126,12 @@ module _ (p : Plan) (k l : ℤ) where
         ap₂ point (sym (c P) ∙ ap (λ (cs : List Column). value (rowP cs)) written-columns ∙ d .0)
         (sym (c Q) ∙ ap (λ (cs : List Column). value (rowQ cs)) written-columns ∙ d .1)
 
-    module _ (limits : Limits) (b : ℕ) (enough : Enough limits b) (k-fits : natAbs k < 2 ^ b) (l-fits : natAbs l < 2 ^ b) where
-      pub places : length (digits p k l) ≤ b + 1
-      places = digits-length k l v b (length-least (natAbs k) b k-fits) (length-least (natAbs l) b l-fits)
+    module _ (limits : Limits) (enough : Enough limits) (k-fits : natAbs k < 2 ^ bits limits) (l-fits : natAbs l < 2 ^ bits limits) where
+      pub places : length (digits p k l) ≤ bits limits + 1
+      places = digits-length k l v (bits limits) (length-least (natAbs k) (bits limits) k-fits) (length-least (natAbs l) (bits limits) l-fits)
 
       -- its additions: at most 30 in the table, and two at each place
-      pub few-within : writtenAdditions p k l ≤ 30 + 2 * (b + 1)
+      pub few-within : writtenAdditions p k l ≤ 2 * bits limits + 32
       unfolding writtenAdditions stepAdditions
       few-within = omega (arith, lines-additions, head-additions, few-additions v, stepped .additions-few, places)
 
@@ -173,7 +165,7 @@ module _ (p : Plan) (k l : ℤ) where
             stepped .doubles,
             stepped .additions-few,
             places,
-            enough .bytes,
+            enough .sheet,
           )
 
       sound : Sound limits (written p k l) k l
@@ -187,7 +179,7 @@ module _ (p : Plan) (k l : ℤ) where
             windows = windows-heading v;
             stored = ap slots (sym same);
             allowed = subst (λ (q : Plan). Allowed q (stepsOf p (digits p k l))) (sym same) (stepped .allowed);
-            low = omega (arith, stepped .doubles, places, enough .doubles);
+            low = omega (arith, stepped .doubles, places, enough .doublings);
             adds = sym lines-additions ∙ ap additions (sym lines-within);
             doubles = sym lines-doublings ∙ ap doublings (sym lines-within);
             carries-k = refl;
@@ -234,14 +226,3 @@ written-signs p k l v =
       written-cost p k l v ∙ ap (λ (n : ℕ). tableAdditions p + (n - 1)) (same .1) ∙ sym (written-cost p x y v),
       written-doublings p k l v ∙ ap (λ (n : ℕ). tableDoublings p + (n - 1)) (same .0) ∙ sym (written-doublings p x y v),
     )
-
--- the card's limits are enough for scalars of 528 bits
-pub card-enough : Enough card 528
-card-enough =
-    record {
-      some-figures = omega arith;
-      scalars = le-refl (2 ^ 528);
-      doubles = omega arith;
-      counts = omega arith;
-      bytes = omega arith;
-    }

@@ -98,6 +98,7 @@ impl<G: Group> Card<'_, G> {
 #[cfg(test)]
 mod tests {
     use super::*;
+    use crate::limits::Limits;
     use crate::plan::Plan;
     use crate::random::Random;
     use crate::samples::SEVEN_AND_TWO;
@@ -128,7 +129,7 @@ mod tests {
         assert_eq!(pair("S\nL,0,3\nE\n"), None);
         let mut random = Random::new(17);
         for plan in Plan::all() {
-            let (k, l) = scalars::random_pair(&mut random);
+            let (k, l) = scalars::random_pair(&mut random, Limits::Gateway);
             let sheet = Sheet::of_plan(plan, k.value(), l.value());
             let run = run_in_pairs(&sheet.to_string()).expect("lines that a card can carry out");
             assert_eq!(run.result, (k.value(), l.value()));

@@ -1,7 +1,6 @@
 //! Real licences, checked by a card in software that runs the archive's sheets; and what becomes of
 //! them with a recoder whose carry stops.
 
-use super::ROOM;
 use crate::judge::Judge;
 use reference::answer::Answer;
 use reference::big::Big;
@@ -18,6 +17,9 @@ use reference::sheet::{columns, Sheet};
 
 const LIMITS: [u32; 8] = [0, 1, 2, 3, 5, 8, 15, 31];
 const WINDOWS: [(u32, u32); 5] = [(1, 1), (3, 1), (5, 7), (15, 9), (31, 31)];
+
+/// The licences are checked by the card's sheets.
+const ROOM: usize = 16_384;
 
 /// A scalar with a 32-bit word of ones to which a carry comes.
 const WITH_A_WORD_OF_ONES: &str = "1234567890abcdefffffffffc0ffee11";

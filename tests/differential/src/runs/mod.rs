@@ -1,5 +1,6 @@
-//! The runs: which calls are compared.
+//! The runs: which calls are compared, by the limits that the judge is turned to.
 
+pub mod both;
 pub mod changed_orders;
 pub mod cheapest;
 pub mod joint_forms;
@@ -16,26 +17,29 @@ use crate::outcome::Outcome;
 use reference::answer::Answer;
 use reference::calls::Call;
 use reference::card;
+use reference::limits::Limits;
 use reference::random::Random;
 use reference::scalars::{self, Scalar};
 
-/// A sheet buffer that is just large enough.
-const ROOM: usize = 16_384;
-
 /// Scalars whose lengths are refused, with random signs.
-fn refused_scalars(random: &mut Random) -> Vec<Scalar> {
-    let lengths = [0, 67, 68, 128, 255, 256, 257, 322, 65_537];
+fn refused_scalars(random: &mut Random, limits: Limits) -> Vec<Scalar> {
+    let most = limits.bytes();
+    let lengths = [0, most + 1, most + 2, 2 * most, 255, 256, 257, 256 + most, 65_537];
     let mut bytes = lengths.map(|length| random.bytes(length)).to_vec();
-    bytes.push(vec![0; 67]);
+    bytes.push(vec![0; most + 1]);
     bytes.into_iter().map(|bytes| scalars::signed(random, bytes)).collect()
 }
 
 /// Makes a call for a sheet, and compares it: the sheet is the reference's, and the reader accepts
-/// it.
+/// it; one of the card's the gateway accepts too.
 fn compare_and_read(judge: &mut Judge, call: &Call) -> Outcome {
     let outcome = judge.compare(call);
     if let Some(sheet) = outcome.sheet() {
-        judge.compare_with(&Call::Read { sheet: sheet.to_vec() }, &Answer::Accepted);
+        let read = Call::Read { sheet: sheet.to_vec() };
+        judge.compare_with(&read, &Answer::Accepted);
+        if judge.limits() == Limits::Card {
+            judge.at(Limits::Gateway, |judge| judge.compare_with(&read, &Answer::Accepted));
+        }
     }
     outcome
 }
@@ -69,5 +73,6 @@ const REFUSED_WINDOWS: [u32; 17] = [
     u32::MAX,
 ];
 
-/// Sizes of sheet buffers: too small, exact, and larger.
-const ROOMS: [usize; 8] = [0, 1, 8_192, 16_383, 16_384, 16_385, 20_000, 65_536];
+/// Sizes of sheet buffers: too small, exact, and larger, at the card and at the gateway.
+const ROOMS: [usize; 11] =
+    [0, 1, 8_192, 16_383, 16_384, 16_385, 20_000, 32_767, 32_768, 32_769, 65_536];

@@ -4,20 +4,20 @@ use crate::judge::Judge;
 use reference::answer::Answer;
 use reference::calls::Call;
 use reference::damage::{damage, recount};
+use reference::limits::Limits;
 use reference::plan::{Plan, MOST_SLOTS};
 use reference::random::Random;
-use reference::reader::LONGEST_SHEET;
 use reference::samples::SEVEN_AND_TWO;
 use reference::sheet::Sheet;
 use reference::{foreign, scalars};
 
-const FOREIGN_SHEETS: usize = 12_000;
-const STRETCHED_SHEETS: usize = 1_500;
-const FALSE_SHEETS: usize = 5_000;
-const DAMAGED_SHEETS: usize = 80_000;
+const FOREIGN_SHEETS: usize = 6_000;
+const STRETCHED_SHEETS: usize = 1_000;
+const FALSE_SHEETS: usize = 2_500;
+const DAMAGED_SHEETS: usize = 45_000;
 const NO_SHEETS: usize = 2_000;
 
-/// How often each question was missed; at 0, how often none was.
+/// How often each question was missed by the limits of the run; at 0, how often none was.
 #[derive(Default)]
 pub struct Met([u64; 12]);
 
@@ -26,9 +26,18 @@ impl Met {
         self.0.iter().copied().enumerate().filter(|(_, count)| *count > 0)
     }
 
+    /// Reads the sheet at the card and at the gateway: where the card accepts it, so does the
+    /// gateway.
     fn read(&mut self, judge: &mut Judge, sheet: Vec<u8>) {
-        let outcome = judge.compare(&Call::Read { sheet });
-        if let Some(count) = self.0.get_mut(outcome.number() as usize) {
+        let limits = judge.limits();
+        let call = Call::Read { sheet };
+        let at_card = judge.at(Limits::Card, |judge| judge.compare(&call)).number();
+        let at_gateway = judge.at(Limits::Gateway, |judge| judge.compare(&call)).number();
+        if at_card == 0 {
+            judge.hold(format_args!("accepted by the card: {call}"), 0, at_gateway);
+        }
+        let number = if limits == Limits::Card { at_card } else { at_gateway };
+        if let Some(count) = self.0.get_mut(number as usize) {
             *count += 1;
         }
     }
@@ -50,7 +59,7 @@ pub fn run(judge: &mut Judge, random: &mut Random) -> Met {
 /// A sheet of every plan, with every number of slots in its header: accepted with the plan's own.
 fn every_number_of_slots(judge: &mut Judge, random: &mut Random) {
     for plan in Plan::all() {
-        let (k, l) = scalars::random_pair(random);
+        let (k, l) = scalars::random_pair(random, judge.limits());
         let sheet = Sheet::of_plan(plan, k.value(), l.value()).to_string();
         for slots in 0..=2 * MOST_SLOTS as usize {
             let own = slots == plan.slots();
@@ -78,15 +87,15 @@ fn random_plan(random: &mut Random) -> Plan {
     }
 }
 
-fn foreign_sheet(random: &mut Random) -> Sheet {
+fn foreign_sheet(random: &mut Random, limits: Limits) -> Sheet {
     let plan = random_plan(random);
-    let (k, l) = scalars::random_pair(random);
+    let (k, l) = scalars::random_pair(random, limits);
     foreign::sheet(random, plan, k.value(), l.value())
 }
 
 fn foreign_sheets(judge: &mut Judge, random: &mut Random, met: &mut Met) {
     for _ in 0..FOREIGN_SHEETS {
-        let sheet = foreign_sheet(random);
+        let sheet = foreign_sheet(random, judge.limits());
         met.read(judge, sheet.to_bytes());
     }
 }
@@ -95,8 +104,9 @@ fn foreign_sheets(judge: &mut Judge, random: &mut Random, met: &mut Met) {
 fn stretched_sheets(judge: &mut Judge, random: &mut Random, met: &mut Met) {
     for _ in 0..STRETCHED_SHEETS {
         let plan = random_plan(random);
-        let (k, l) = scalars::random_pair(random);
-        let places = random.pick(&[527, 528, 529, 530, 531, 600, 900]);
+        let (k, l) = scalars::random_pair(random, judge.limits());
+        let places =
+            random.pick(&[527, 528, 529, 530, 531, 600, 1_023, 1_024, 1_025, 1_026, 1_500]);
         let sheet = foreign::stretched_sheet(random, plan, k.value(), l.value(), places);
         met.read(judge, sheet.to_bytes());
     }
@@ -106,27 +116,27 @@ fn stretched_sheets(judge: &mut Judge, random: &mut Random, met: &mut Met) {
 fn false_sheets(judge: &mut Judge, random: &mut Random, met: &mut Met) {
     for _ in 0..FALSE_SHEETS {
         let plan = random_plan(random);
-        let (k, l) = scalars::random_pair(random);
-        let sheet = foreign::false_sheet(random, plan, k.value(), l.value());
+        let (k, l) = scalars::random_pair(random, judge.limits());
+        let sheet = foreign::false_sheet(random, plan, k.value(), l.value(), judge.limits());
         met.read(judge, sheet.to_bytes());
     }
 }
 
 fn damaged_sheets(judge: &mut Judge, random: &mut Random, met: &mut Met) {
     for _ in 0..DAMAGED_SHEETS {
-        let sheet = sheet_to_damage(random).to_bytes();
-        met.read(judge, damage(random, &sheet));
+        let sheet = sheet_to_damage(random, judge.limits()).to_bytes();
+        met.read(judge, damage(random, &sheet, judge.limits()));
     }
 }
 
 /// A written or foreign sheet; mostly for short scalars, where a line that is hit at random is
 /// more often one that matters.
-fn sheet_to_damage(random: &mut Random) -> Sheet {
+fn sheet_to_damage(random: &mut Random, limits: Limits) -> Sheet {
     if random.once_in(4) {
-        return foreign_sheet(random);
+        return foreign_sheet(random, limits);
     }
     let plan = random_plan(random);
-    let bytes = random.pick(&[1, 1, 2, 3, 66]);
+    let bytes = random.pick(&[1, 1, 2, 3, limits.bytes()]);
     let k = scalars::random_of_length(random, bytes).value();
     let l = scalars::random_of_length(random, bytes).value();
     if random.once_in(2) {
@@ -168,14 +178,15 @@ fn long_sheets(judge: &mut Judge, random: &mut Random, met: &mut Met) {
     let fillings = ["D\n", "A,1,0\n", "D\nA,1,0\n", "T,2,0\n", "T,3,0\n", "E\n", "\n", "x", "9"];
     for opening in openings {
         for filling in fillings {
-            for length in LONGEST_SHEET - 3..=LONGEST_SHEET + 3 {
+            let longest = judge.limits().sheet();
+            for length in longest - 3..=longest + 3 {
                 met.read(judge, filled(opening, filling, length));
             }
-            let longer = random.pick(&[17_000, 32_768, 65_536, 65_600, 81_920]);
+            let longer = random.pick(&[17_000, 33_000, 65_536, 65_600, 81_920]);
             met.read(judge, filled(opening, filling, longer));
         }
     }
-    for doubles in [526, 527, 528, 529, 530, 1_000, 8_000] {
+    for doubles in [527, 528, 529, 530, 1_000, 1_023, 1_024, 1_025, 1_026, 8_000] {
         for opening in &openings[2..] {
             let mut sheet = format!("{opening}{}E\n", "D\n".repeat(doubles)).into_bytes();
             met.read(judge, sheet.clone());

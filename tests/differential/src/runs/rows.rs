@@ -3,13 +3,14 @@
 use super::{refused_scalars, REFUSED_WINDOWS};
 use crate::judge::Judge;
 use reference::calls::Call;
+use reference::limits::Limits;
 use reference::random::Random;
 use reference::{row, scalars};
 
 const RANDOM_SCALARS: usize = 5_000;
 
 pub fn run(judge: &mut Judge, random: &mut Random) {
-    for bytes in all_scalars(random) {
+    for bytes in all_scalars(random, judge.limits()) {
         for m in row::windows() {
             let places = enough_places(random, bytes.len());
             let scalar = scalars::signed(random, bytes.clone());
@@ -22,11 +23,12 @@ pub fn run(judge: &mut Judge, random: &mut Random) {
 }
 
 /// The bytes of many scalars; each call gives them a random sign.
-fn all_scalars(random: &mut Random) -> Vec<Vec<u8>> {
+fn all_scalars(random: &mut Random, limits: Limits) -> Vec<Vec<u8>> {
     let mut all: Vec<Vec<u8>> = (0..=255).map(|value| vec![value]).collect();
-    all.extend(scalars::of_every_length(random));
-    all.extend(scalars::around_powers_of_two());
-    all.extend((0..RANDOM_SCALARS).map(|_| scalars::random(random).bytes));
+    all.extend(scalars::of_every_length(random, limits));
+    all.extend(scalars::around_powers_of_two(limits));
+    all.extend(scalars::longest(limits));
+    all.extend((0..RANDOM_SCALARS).map(|_| scalars::random(random, limits).bytes));
     all
 }
 
@@ -42,10 +44,10 @@ fn enough_places(random: &mut Random, bytes: usize) -> usize {
 
 /// Question 1 comes before the others.
 fn refused_lengths(judge: &mut Judge, random: &mut Random) {
-    for scalar in refused_scalars(random) {
+    for scalar in refused_scalars(random, judge.limits()) {
         let exact = 8 * scalar.bytes.len() + 1;
         for m in [1, 31, 0, 33] {
-            for places in [0, 529, exact] {
+            for places in [0, judge.limits().places(), exact] {
                 judge.compare(&Call::Row { scalar: scalar.clone(), m, places });
             }
         }
@@ -56,7 +58,7 @@ fn refused_lengths(judge: &mut Judge, random: &mut Random) {
 fn refused_windows(judge: &mut Judge, random: &mut Random) {
     for m in REFUSED_WINDOWS.into_iter().chain((2..=62).step_by(2)) {
         for _ in 0..4 {
-            let scalar = scalars::random(random);
+            let scalar = scalars::random(random, judge.limits());
             let exact = 8 * scalar.bytes.len() + 1;
             for places in [0, exact - 1, exact, exact + 9] {
                 judge.compare(&Call::Row { scalar: scalar.clone(), m, places });
@@ -66,7 +68,7 @@ fn refused_windows(judge: &mut Judge, random: &mut Random) {
 }
 
 fn small_buffers(judge: &mut Judge, random: &mut Random) {
-    for bytes in 1..=scalars::MOST_BYTES {
+    for bytes in 1..=judge.limits().bytes() {
         let exact = 8 * bytes + 1;
         for places in [0, 1, 8, bytes, exact / 2, exact - 1, exact, exact + 1, 65_537 + bytes] {
             let scalar = scalars::random_of_length(random, bytes);

@@ -5,16 +5,17 @@ use reference::edges;
 use reference::samples::{self, Says};
 
 pub fn run(judge: &mut Judge) {
-    for (call, says) in samples::all() {
+    let limits = judge.limits();
+    for (call, says) in samples::all(limits) {
         if let Says::Whole(answer) = says {
             judge.compare_with(&call, &answer);
         } else {
-            let answer = call.answer();
+            let answer = call.answer(limits);
             assert!(says.holds_of(&answer), "the reference fails a sample: {call}");
             judge.compare_with(&call, &answer);
         }
     }
-    for (call, answer) in edges::all() {
+    for (call, answer) in edges::all(limits) {
         judge.compare_with(&call, &answer);
     }
 }

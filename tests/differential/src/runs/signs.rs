@@ -1,24 +1,25 @@
 //! Signs: what a minus changes in the library's own answers, and what it leaves.
 
-use super::{comes_to_its_pair, compare_and_read, ROOM};
+use super::{comes_to_its_pair, compare_and_read};
 use crate::judge::Judge;
 use crate::outcome::Outcome;
 use reference::answer::Answer;
 use reference::calls::Call;
+use reference::limits::Limits;
 use reference::random::Random;
 use reference::row;
 use reference::scalars::{self, Scalar, SIGNS};
 
-const RANDOM_PAIRS: usize = 300;
+const RANDOM_PAIRS: usize = 200;
 
 /// Two scalars below this have every two signs.
 const SMALL: u8 = 12;
 
 pub fn run(judge: &mut Judge, random: &mut Random) {
     rows(judge, random);
-    for (k, l) in pairs(random) {
+    for (k, l) in pairs(random, judge.limits()) {
         joint_forms(judge, &k, &l);
-        for order in orders(random) {
+        for order in orders(random, judge.limits().sheet()) {
             sheets(judge, &k, &l, order);
         }
     }
@@ -27,19 +28,20 @@ pub fn run(judge: &mut Judge, random: &mut Random) {
 }
 
 /// The bytes of two scalars: all small ones, zeros, the longest, and random ones.
-fn pairs(random: &mut Random) -> Vec<(Vec<u8>, Vec<u8>)> {
+fn pairs(random: &mut Random, limits: Limits) -> Vec<(Vec<u8>, Vec<u8>)> {
+    let most = limits.bytes();
     let small = (0..SMALL).flat_map(|k| (0..SMALL).map(move |l| (vec![k], vec![l])));
     let mut pairs: Vec<_> = small.collect();
-    for zeros in [1, 2, 33, 66] {
+    for zeros in [1, 2, most / 2, most] {
         pairs.push((vec![0; zeros], vec![5]));
         pairs.push((vec![5], vec![0; zeros]));
         pairs.push((vec![0; zeros], vec![0; zeros]));
     }
-    pairs.push((vec![255; 66], vec![255; 66]));
-    pairs.push((scalars::dense(), scalars::dense()));
-    pairs.push(scalars::dense_pair());
+    pairs.push((vec![255; most], vec![255; most]));
+    pairs.push((scalars::dense(limits), scalars::dense(limits)));
+    pairs.push(scalars::dense_pair(limits));
     for _ in 0..RANDOM_PAIRS {
-        let (k, l) = scalars::random_pair(random);
+        let (k, l) = scalars::random_pair(random, limits);
         pairs.push((k.bytes, l.bytes));
     }
     pairs
@@ -49,8 +51,8 @@ fn pairs(random: &mut Random) -> Vec<(Vec<u8>, Vec<u8>)> {
 /// weight.
 fn rows(judge: &mut Judge, random: &mut Random) {
     let mut all: Vec<Vec<u8>> = (0..=255).map(|value| vec![value]).collect();
-    all.extend(scalars::patterned());
-    all.extend((0..100).map(|_| scalars::random(random).bytes));
+    all.extend(scalars::patterned(judge.limits()));
+    all.extend((0..100).map(|_| scalars::random(random, judge.limits()).bytes));
     for bytes in all {
         for m in row::windows() {
             let row = |sign| {
@@ -96,13 +98,13 @@ fn joint_forms(judge: &mut Judge, k: &[u8], l: &[u8]) {
 type Order = Box<dyn Fn(Scalar, Scalar) -> Call>;
 
 /// Plan J, a plan I, and the cheapest sheet under a limit.
-fn orders(random: &mut Random) -> [Order; 3] {
+fn orders(random: &mut Random, room: usize) -> [Order; 3] {
     let (m1, m2) = (random.window().into(), random.window().into());
     let limit = random.pick(&[0, 1, 2, 3, 5, 8, 15, 31]);
     [
-        Box::new(|k, l| Call::PlanJ { k, l, room: ROOM }),
-        Box::new(move |k, l| Call::PlanI { k, l, m1, m2, room: ROOM }),
-        Box::new(move |k, l| Call::Cheapest { k, l, limit, room: ROOM }),
+        Box::new(move |k, l| Call::PlanJ { k, l, room }),
+        Box::new(move |k, l| Call::PlanI { k, l, m1, m2, room }),
+        Box::new(move |k, l| Call::Cheapest { k, l, limit, room }),
     ]
 }
 
@@ -155,20 +157,24 @@ fn turned(sheet: &str, ks: u32, ls: u32) -> String {
 
 /// A refusal is the same with any sign, and writes nowhere.
 fn refusals(judge: &mut Judge, random: &mut Random) {
+    let limits = judge.limits();
+    let (enough, room) = (limits.places() + 71, limits.sheet());
     for (ks, ls) in every_two_signs() {
-        let good = Scalar::new(scalars::random(random).bytes, ks);
+        let good = Scalar::new(scalars::random(random, limits).bytes, ks);
         let exact = 8 * good.bytes.len() + 1;
-        let (longer, none) = (Scalar::new(random.bytes(67), ls), Scalar::new([], ls));
+        let longer = Scalar::new(random.bytes(limits.bytes() + 1), ls);
+        let none = Scalar::new([], ls);
         let zero = Scalar::new([0], ls);
         let refused = |number| Answer::refused(number, 0);
         for bad in [longer, none] {
             for (k, l) in [(&good, &bad), (&bad, &good), (&bad, &bad)] {
-                let (k, l, rooms) = (k.clone(), l.clone(), [600; 4]);
-                let joint = Call::Joint { k: k.clone(), l: l.clone(), k_places: 0, l_places: 600 };
+                let (k, l, rooms) = (k.clone(), l.clone(), [enough; 4]);
+                let joint =
+                    Call::Joint { k: k.clone(), l: l.clone(), k_places: 0, l_places: enough };
                 judge.compare_with(&joint, &refused(1));
                 let coded = Call::JointCodes { k: k.clone(), l: l.clone(), rooms };
                 judge.compare_with(&coded, &refused(1));
-                for order in orders(random) {
+                for order in orders(random, room) {
                     judge.compare_with(&order(k.clone(), l.clone()), &refused(1));
                 }
             }
@@ -181,9 +187,9 @@ fn refusals(judge: &mut Judge, random: &mut Random) {
         judge
             .compare_with(&Call::Joint { k, l, k_places: exact, l_places: exact - 1 }, &refused(3));
         let (k, l) = (good.clone(), zero.clone());
-        judge.compare_with(&Call::PlanI { k, l, m1: 1, m2: 0, room: ROOM }, &refused(2));
+        judge.compare_with(&Call::PlanI { k, l, m1: 1, m2: 0, room }, &refused(2));
         let (k, l) = (good.clone(), zero.clone());
-        judge.compare_with(&Call::PlanJ { k, l, room: ROOM - 1 }, &refused(3));
+        judge.compare_with(&Call::PlanJ { k, l, room: room - 1 }, &refused(3));
         let (k, l) = (good, zero);
         judge.compare_with(&Call::Cheapest { k, l, limit: 32, room: 0 }, &refused(4));
     }
@@ -195,7 +201,7 @@ fn headers(judge: &mut Judge) {
     let numbers = [-3, -2, -1, 0, 1, 2, 3];
     let pairs = || numbers.into_iter().flat_map(|k| numbers.map(|l| (k, l)));
     for (k, l) in pairs() {
-        let call = Call::PlanJ { k: scalar(k), l: scalar(l), room: ROOM };
+        let call = Call::PlanJ { k: scalar(k), l: scalar(l), room: judge.limits().sheet() };
         let sheet = text(&judge.compare(&call));
         let own = format!(",{k},{l}\n");
         for (other_k, other_l) in pairs() {

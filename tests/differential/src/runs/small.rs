@@ -1,6 +1,5 @@
 //! Small scalars, where an exhaustive search over digit lists confirms that nothing is lighter.
 
-use super::ROOM;
 use crate::judge::Judge;
 use crate::outcome::{Claim, Outcome};
 use reference::calls::Call;
@@ -75,7 +74,7 @@ fn compare_cheapest(judge: &mut Judge, rows: &[Least], columns: &Least) {
             let plus = ks == 0 && ls == 0;
             for limit in (0..=MOST_SLOTS).filter(|limit| plus || SIGNED_LIMITS.contains(limit)) {
                 let (k, l) = (Scalar::new([k], ks), Scalar::new([l], ls));
-                let call = Call::Cheapest { k, l, limit, room: ROOM };
+                let call = Call::Cheapest { k, l, limit, room: judge.limits().sheet() };
                 let allowed = plans.iter().filter(|(plan, _)| plan.slots() <= limit as usize);
                 let fewest = allowed.map(|&(_, additions)| additions).min();
                 let expected = fewest.expect("windows 1, 1 need no slot");

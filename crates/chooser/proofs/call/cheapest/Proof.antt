@@ -2,6 +2,7 @@
 use mathlib.Core.Path.{sym, _∙_}
 use Rattle.digits.specs.Limits.{card}
 use Rattle.digits.specs.Scalar.{Bytes}
+use Rattle.written.specs.Enough.{card-enough}
 use Rattle.chooser.specs.Call.Met.{scalars-missed, limit-missed, all-met}
 use Rattle.chooser.proofs.CallAnswers.{not-scalars, over-limit, by-plan}
 use borrow.Author.Needs.{needs}
@@ -38,7 +39,7 @@ returns : tie.Need-returns
 returns c =
     let p = c .before .before in
     let a = asked p .args in
-    not-scalars (a .k .now) (a .k-sign) (a .l .now) (a .l-sign) (a .sheet .now) (a .limit) (k-bytes p) (l-bytes p)
+    not-scalars card (a .k .now) (a .k-sign) (a .l .now) (a .l-sign) (a .sheet .now) (a .limit) card-enough (k-bytes p) (l-bytes p)
     (scalars-missed card (a .k .now) (a .l .now) (a .limit) (sym (p .cheapest-plan .ensures .0) ∙ c .enum-told .given .1))
 
 returns-2 : tie.Need-returns-2
@@ -46,7 +47,7 @@ returns-2 c =
     let p = c .before .before in
     let a = asked p .args in
     let (sizes, high) = limit-missed card (a .k .now) (a .l .now) (a .limit) (sym (p .cheapest-plan .ensures .0) ∙ c .enum-told2 .given .1) in
-    over-limit (a .k .now) (a .k-sign) (a .l .now) (a .l-sign) (a .sheet .now) (a .limit) (k-bytes p) (l-bytes p) sizes high
+    over-limit card (a .k .now) (a .k-sign) (a .l .now) (a .l-sign) (a .sheet .now) (a .limit) card-enough (k-bytes p) (l-bytes p) sizes high
 
 same-length : tie.Need-same-length
 same-length c = search needs
@@ -57,7 +58,7 @@ returns-3 c =
     let p = w .before .before .before .before .before in
     let a = asked p .args in
     let (sizes, (low, chosen)) = all-met card (a .k .now) (a .l .now) (a .limit) (sym (p .cheapest-plan .ensures .0) ∙ w .before .before .before .plan .given .1) in
-    by-plan (a .k .now) (a .k-sign) (a .l .now) (a .l-sign) (a .sheet .now) (a .limit) (k-bytes p) (l-bytes p) sizes low chosen (w .sheet-of .ensures .0) (w .sheet-of .ensures .1)
+    by-plan card (a .k .now) (a .k-sign) (a .l .now) (a .l-sign) (a .sheet .now) (a .limit) card-enough (k-bytes p) (l-bytes p) sizes low chosen (w .sheet-of .ensures .0) (w .sheet-of .ensures .1)
 
 pub cheapest-spec : {M : Type 1} → statement M
 cheapest-spec =

@@ -11,20 +11,20 @@ module _ (c : tie.After-places) where
   abbrev asked : tie.Start
   asked = c .before .before .before .before .before .before .before .before
 
-  fit : Fit (c .before .before .before .joint .result)
+  fit : Fit (c .before .before .before .gateway-joint .result)
   fit =
-      joint-fits (asked .args .k .now) (asked .args .l .now) (replicate 529 0) (replicate 529 0) (c .before .before .before .joint .ensures .0)
+      joint-fits (asked .args .k .now) (asked .args .l .now) (replicate 1025 0) (replicate 1025 0) (c .before .before .before .gateway-joint .ensures .0)
       (λ i. c .before .before .before .before .before .before .before .shared-slice-known .given i .fits)
       (λ i. c .before .before .before .before .before .before .shared-slice-known2 .given i .fits)
 
-slice-aggregate-joint : tie.Need-slice-aggregate-joint
-slice-aggregate-joint c = search needs
+slice-aggregate-gateway-joint : tie.Need-slice-aggregate-gateway-joint
+slice-aggregate-gateway-joint c = search needs
 
-slice-aggregate-joint-2 : tie.Need-slice-aggregate-joint-2
-slice-aggregate-joint-2 c = search needs
+slice-aggregate-gateway-joint-2 : tie.Need-slice-aggregate-gateway-joint-2
+slice-aggregate-gateway-joint-2 c = search needs
 
-joint-requires : tie.Need-joint-requires
-joint-requires c κs = search needs
+gateway-joint-requires : tie.Need-gateway-joint-requires
+gateway-joint-requires c κs = search needs
 
 places-requires : tie.Need-places-requires
 places-requires c κs = search needs
@@ -42,16 +42,16 @@ returns : tie.Need-returns
 returns c =
     let a = asked (c .before) .args in
     let p = asked (c .before) .pre in
-    joint-measured (a .k .now) (a .l .now) (replicate 529 0) (replicate 529 0) (c .before .before .before .before .joint .ensures .0)
+    joint-measured (a .k .now) (a .l .now) (replicate 1025 0) (replicate 1025 0) (c .before .before .before .before .gateway-joint .ensures .0)
     (p .0) (p .1 .0) (p .1 .1 .0) (p .1 .1 .1) (omega arith) (omega arith) (c .before .places .ensures) (c .weight .ensures)
 
 pub joint-size-spec : {M : Type 1} → statement M
 joint-size-spec =
     tie.close
     (tie.spec
-    slice-aggregate-joint
-    slice-aggregate-joint-2
-    joint-requires
+    slice-aggregate-gateway-joint
+    slice-aggregate-gateway-joint-2
+    gateway-joint-requires
     places-requires
     cast-t11
     weight-requires

@@ -10,11 +10,11 @@ module _ (c : tie.After-places) where
   abbrev asked : tie.Start
   asked = c .before .before .before .before .before .before .before
 
-  fit : Fit (c .before .before .before .row .result)
-  fit = row-fits (asked .args .bytes .now) (asked .args .m) (asked .args .digits .now) (c .before .before .before .row .ensures .0) (λ i. c .before .before .before .before .before .before .shared-slice-known .given i .fits)
+  fit : Fit (c .before .before .before .gateway-row .result)
+  fit = row-fits (asked .args .bytes .now) (asked .args .m) (asked .args .digits .now) (c .before .before .before .gateway-row .ensures .0) (λ i. c .before .before .before .before .before .before .shared-slice-known .given i .fits)
 
-row-requires : tie.Need-row-requires
-row-requires c κs = search needs
+gateway-row-requires : tie.Need-gateway-row-requires
+gateway-row-requires c κs = search needs
 
 places-requires : tie.Need-places-requires
 places-requires c κs = search needs
@@ -35,9 +35,9 @@ returns : tie.Need-returns
 returns c =
     let a = asked (c .before) .args in
     let p = asked (c .before) .pre in
-    row-measured (a .bytes .now) (a .m) (a .digits .now) (c .before .before .before .before .row .ensures .0) (p .0 .0) (p .0 .1 .0) (p .0 .1 .1 .0) (p .0 .1 .1 .1) (p .1) (c .before .places .ensures) (c .weight .ensures)
+    row-measured (a .bytes .now) (a .m) (a .digits .now) (c .before .before .before .before .gateway-row .ensures .0) (p .0 .0) (p .0 .1 .0) (p .0 .1 .1 .0) (p .0 .1 .1 .1) (p .1) (c .before .places .ensures) (c .weight .ensures)
 
 pub row-size-spec : {M : Type 1} → statement M
 row-size-spec =
     tie.close
-    (tie.spec row-requires places-requires cast-t8 weight-requires cast-t10 same-length returns)
+    (tie.spec gateway-row-requires places-requires cast-t8 weight-requires cast-t10 same-length returns)

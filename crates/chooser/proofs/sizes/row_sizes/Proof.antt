@@ -11,7 +11,7 @@ use Rattle.chooser.proofs.sizes.row_sizes.Statement.{statement}
 use Rattle.chooser.proofs.sizes.row_sizes.Tie as tie
 
 abbrev Inv-loop : tie.InvT-loop
-Inv-loop bytes limit sizes₀ digits₀ places i₀ sizes digits i = ((i ≤ 16) × (length digits ≡ 529)) × (sizes ≡ begun (rowSizes limit (scalar bytes)) 32 (2 * i))
+Inv-loop bytes limit sizes₀ digits₀ places i₀ sizes digits i = ((i ≤ 16) × (length digits ≡ 1025)) × (sizes ≡ begun (rowSizes limit (scalar bytes)) 32 (2 * i))
 
 abbrev μ-loop : tie.MeasureT-loop
 μ-loop bytes limit sizes₀ digits₀ places i₀ sizes digits i = 16 - i

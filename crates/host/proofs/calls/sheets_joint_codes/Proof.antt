@@ -1,7 +1,8 @@
 -- `sheets_joint_codes` meets its contract: it tells what `joint_codes` answers, whose numbers fit their parts.
 use mathlib.Core.Path.{sym, ap, subst, _∙_}
 use lib.ListN.{length}
-use Rattle.host.specs.Told.Parts.{codes-fits}
+use Rattle.digits.specs.Limits.{card}
+use Rattle.host.specs.Told.Parts.{card-tellable, codes-fits}
 use Rattle.host.specs.Told.{toldRecoded, RecodedFits}
 use borrow.Author.Needs.{needs}
 use Rattle.host.proofs.calls.sheets_joint_codes.Statement.{statement}
@@ -16,7 +17,7 @@ recoded-requires c κs =
     let s = w .before .before .before .before .before .before .before .before .before in
     let a = s .before .before .args in
     subst RecodedFits (sym (w .joint-codes .ensures .0))
-    (codes-fits (a .k .now) (a .k-sign) (a .l .now) (a .l-sign) (length (a .k-digits .now)) (length (a .l-digits .now)) (length (a .k-codes .now)) (length (a .l-codes .now))
+    (codes-fits card card-tellable (a .k .now) (a .k-sign) (a .l .now) (a .l-sign) (length (a .k-digits .now)) (length (a .l-digits .now)) (length (a .k-codes .now)) (length (a .l-codes .now))
     (λ i. s .before .shared-slice-known .given i .fits) (λ i. s .shared-slice-known2 .given i .fits))
 
 same-length : tie.Need-same-length

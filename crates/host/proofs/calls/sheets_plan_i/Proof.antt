@@ -1,7 +1,8 @@
 -- `sheets_plan_i` meets its contract: it tells what `plan_i` answers, whose numbers fit their parts.
 use mathlib.Core.Path.{sym, ap, subst, _∙_}
 use lib.ListN.{length}
-use Rattle.host.specs.Told.Parts.{i-fits}
+use Rattle.digits.specs.Limits.{card}
+use Rattle.host.specs.Told.Parts.{card-tellable, i-fits}
 use Rattle.host.specs.Told.{toldSheet, SheetFits}
 use borrow.Author.Needs.{needs}
 use Rattle.host.proofs.calls.sheets_plan_i.Statement.{statement}
@@ -16,7 +17,7 @@ written-requires c κs =
     let s = w .before .before .before in
     let a = s .before .before .args in
     subst SheetFits (sym (w .plan-i .ensures .0))
-    (i-fits (a .k .now) (a .k-sign) (a .l .now) (a .l-sign) (λ i. s .before .shared-slice-known .given i .fits) (λ i. s .shared-slice-known2 .given i .fits) (a .m1) (a .m2)
+    (i-fits card card-tellable (a .k .now) (a .k-sign) (a .l .now) (a .l-sign) (λ i. s .before .shared-slice-known .given i .fits) (λ i. s .shared-slice-known2 .given i .fits) (a .m1) (a .m2)
     (length (a .sheet .now)))
 
 same-length : tie.Need-same-length

@@ -1,7 +1,8 @@
 -- `sheets_plan_j` meets its contract: it tells what `plan_j` answers, whose numbers fit their parts.
 use mathlib.Core.Path.{sym, ap, subst, _∙_}
 use lib.ListN.{length}
-use Rattle.host.specs.Told.Parts.{j-fits}
+use Rattle.digits.specs.Limits.{card}
+use Rattle.host.specs.Told.Parts.{card-tellable, j-fits}
 use Rattle.host.specs.Told.{toldSheet, SheetFits}
 use borrow.Author.Needs.{needs}
 use Rattle.host.proofs.calls.sheets_plan_j.Statement.{statement}
@@ -16,7 +17,7 @@ written-requires c κs =
     let s = w .before .before .before in
     let a = s .before .before .args in
     subst SheetFits (sym (w .plan-j .ensures .0))
-    (j-fits (a .k .now) (a .k-sign) (a .l .now) (a .l-sign) (λ i. s .before .shared-slice-known .given i .fits) (λ i. s .shared-slice-known2 .given i .fits)
+    (j-fits card card-tellable (a .k .now) (a .k-sign) (a .l .now) (a .l-sign) (λ i. s .before .shared-slice-known .given i .fits) (λ i. s .shared-slice-known2 .given i .fits)
     (length (a .sheet .now)))
 
 same-length : tie.Need-same-length

@@ -1,7 +1,8 @@
 -- `sheets_row` meets its contract: it tells what `row` answers, whose numbers fit their parts.
 use mathlib.Core.Path.{sym, ap, subst, _∙_}
 use lib.ListN.{length}
-use Rattle.host.specs.Told.Parts.{row-fits}
+use Rattle.digits.specs.Limits.{card}
+use Rattle.host.specs.Told.Parts.{card-tellable, row-fits}
 use Rattle.host.specs.Told.{toldRecoded, RecodedFits}
 use borrow.Author.Needs.{needs}
 use Rattle.host.proofs.calls.sheets_row.Statement.{statement}
@@ -16,7 +17,7 @@ recoded-requires c κs =
     let s = w .before .before .before in
     let a = s .before .args in
     subst RecodedFits (sym (w .row .ensures .0))
-    (row-fits (a .scalar .now) (a .sign) (a .m) (length (a .digits .now)) (λ i. s .shared-slice-known .given i .fits))
+    (row-fits card card-tellable (a .scalar .now) (a .sign) (a .m) (length (a .digits .now)) (λ i. s .shared-slice-known .given i .fits))
 
 same-length : tie.Need-same-length
 same-length c = search needs

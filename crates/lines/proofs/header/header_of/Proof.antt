@@ -17,7 +17,7 @@ enum-told : tie.Need-enum-told
 enum-told c = search needs
 
 returns : tie.Need-returns
-returns c = header-2 (cut comma (c .before .before .before .before .args .s .now)) (c .before .before .before .before .args .joint) (c .before .before .before .before .pre) (decimal-none _ (sym (c .before .before .decimal-at .ensures) ∙ c .enum-told .given .1))
+returns c = header-2 _ (cut comma (c .before .before .before .before .args .s .now)) (c .before .before .before .before .args .joint) (c .before .before .before .before .pre) (decimal-none _ (sym (c .before .before .decimal-at .ensures) ∙ c .enum-told .given .1))
 
 decimal-at-requires-2 : tie.Need-decimal-at-requires-2
 decimal-at-requires-2 c κs = search needs
@@ -30,7 +30,7 @@ enum-told-2 c = search needs
 
 returns-2 : tie.Need-returns-2
 returns-2 c =
-    header-3 (cut comma (c .before .before .before .before .before .before .before .before .args .s .now)) (c .before .before .before .before .before .before .before .before .args .joint) (c .before .before .before .before .before .before .before .before .pre)
+    header-3 _ (cut comma (c .before .before .before .before .before .before .before .before .args .s .now)) (c .before .before .before .before .before .before .before .before .args .joint) (c .before .before .before .before .before .before .before .before .pre)
     _ (decimal-some _ _ (sym (c .before .before .before .before .before .before .decimal-at .ensures) ∙ c .before .before .before .before .first .given .1))
     (decimal-none _ (sym (c .before .before .decimal-at2 .ensures) ∙ c .enum-told2 .given .1))
 
@@ -45,7 +45,7 @@ enum-told-3 c = search needs
 
 returns-3 : tie.Need-returns-3
 returns-3 c =
-    header-4 (cut comma (c .before .before .before .before .before .before .before .before .before .before .before .before .args .s .now)) (c .before .before .before .before .before .before .before .before .before .before .before .before .args .joint) (c .before .before .before .before .before .before .before .before .before .before .before .before .pre)
+    header-4 _ (cut comma (c .before .before .before .before .before .before .before .before .before .before .before .before .args .s .now)) (c .before .before .before .before .before .before .before .before .before .before .before .before .args .joint) (c .before .before .before .before .before .before .before .before .before .before .before .before .pre)
     _ (decimal-some _ _ (sym (c .before .before .before .before .before .before .before .before .before .before .decimal-at .ensures) ∙ c .before .before .before .before .before .before .before .before .first .given .1))
     _ (decimal-some _ _ (sym (c .before .before .before .before .before .before .decimal-at2 .ensures) ∙ c .before .before .before .before .second .given .1))
     (decimal-none _ (sym (c .before .before .decimal-at3 .ensures) ∙ c .enum-told3 .given .1))
@@ -61,7 +61,7 @@ enum-told-4 c = search needs
 
 returns-4 : tie.Need-returns-4
 returns-4 c =
-    header-5 (cut comma (c .before .before .before .before .before .before .before .before .before .before .before .before .before .before .before .before .args .s .now)) (c .before .before .before .before .before .before .before .before .before .before .before .before .before .before .before .before .args .joint) (c .before .before .before .before .before .before .before .before .before .before .before .before .before .before .before .before .pre)
+    header-5 _ (cut comma (c .before .before .before .before .before .before .before .before .before .before .before .before .before .before .before .before .args .s .now)) (c .before .before .before .before .before .before .before .before .before .before .before .before .before .before .before .before .args .joint) (c .before .before .before .before .before .before .before .before .before .before .before .before .before .before .before .before .pre)
     _ (decimal-some _ _ (sym (c .before .before .before .before .before .before .before .before .before .before .before .before .before .before .decimal-at .ensures) ∙ c .before .before .before .before .before .before .before .before .before .before .before .before .first .given .1))
     _ (decimal-some _ _ (sym (c .before .before .before .before .before .before .before .before .before .before .decimal-at2 .ensures) ∙ c .before .before .before .before .before .before .before .before .second .given .1))
     _ (decimal-some _ _ (sym (c .before .before .before .before .before .before .decimal-at3 .ensures) ∙ c .before .before .before .before .third .given .1))
@@ -78,7 +78,7 @@ enum-told-5 c = search needs
 
 returns-5 : tie.Need-returns-5
 returns-5 c =
-    header-6 (cut comma (c .before .before .before .before .before .before .before .before .before .before .before .before .before .before .before .before .before .before .before .before .args .s .now)) (c .before .before .before .before .before .before .before .before .before .before .before .before .before .before .before .before .before .before .before .before .args .joint) (c .before .before .before .before .before .before .before .before .before .before .before .before .before .before .before .before .before .before .before .before .pre)
+    header-6 _ (cut comma (c .before .before .before .before .before .before .before .before .before .before .before .before .before .before .before .before .before .before .before .before .args .s .now)) (c .before .before .before .before .before .before .before .before .before .before .before .before .before .before .before .before .before .before .before .before .args .joint) (c .before .before .before .before .before .before .before .before .before .before .before .before .before .before .before .before .before .before .before .before .pre)
     _ (decimal-some _ _ (sym (c .before .before .before .before .before .before .before .before .before .before .before .before .before .before .before .before .before .before .decimal-at .ensures) ∙ c .before .before .before .before .before .before .before .before .before .before .before .before .before .before .before .before .first .given .1))
     _ (decimal-some _ _ (sym (c .before .before .before .before .before .before .before .before .before .before .before .before .before .before .decimal-at2 .ensures) ∙ c .before .before .before .before .before .before .before .before .before .before .before .before .second .given .1))
     _ (decimal-some _ _ (sym (c .before .before .before .before .before .before .before .before .before .before .decimal-at3 .ensures) ∙ c .before .before .before .before .before .before .before .before .third .given .1))
@@ -93,7 +93,7 @@ is-scalar-at-requires-2 c κs = search needs
 
 returns-6 : tie.Need-returns-6
 returns-6 c =
-    header-all (cut comma (c .before .before .before .before .before .before .before .before .before .before .before .before .before .before .before .before .before .before .before .before .before .before .before .before .before .args .s .now)) (c .before .before .before .before .before .before .before .before .before .before .before .before .before .before .before .before .before .before .before .before .before .before .before .before .before .args .joint) (c .before .before .before .before .before .before .before .before .before .before .before .before .before .before .before .before .before .before .before .before .before .before .before .before .before .pre)
+    header-all _ (cut comma (c .before .before .before .before .before .before .before .before .before .before .before .before .before .before .before .before .before .before .before .before .before .before .before .before .before .args .s .now)) (c .before .before .before .before .before .before .before .before .before .before .before .before .before .before .before .before .before .before .before .before .before .before .before .before .before .args .joint) (c .before .before .before .before .before .before .before .before .before .before .before .before .before .before .before .before .before .before .before .before .before .before .before .before .before .pre)
     _ (decimal-some _ _ (sym (c .before .before .before .before .before .before .before .before .before .before .before .before .before .before .before .before .before .before .before .before .before .before .before .decimal-at .ensures) ∙ c .before .before .before .before .before .before .before .before .before .before .before .before .before .before .before .before .before .before .before .before .before .first .given .1))
     _ (decimal-some _ _ (sym (c .before .before .before .before .before .before .before .before .before .before .before .before .before .before .before .before .before .before .before .decimal-at2 .ensures) ∙ c .before .before .before .before .before .before .before .before .before .before .before .before .before .before .before .before .before .second .given .1))
     _ (decimal-some _ _ (sym (c .before .before .before .before .before .before .before .before .before .before .before .before .before .before .before .decimal-at3 .ensures) ∙ c .before .before .before .before .before .before .before .before .before .before .before .before .before .third .given .1))
@@ -104,7 +104,7 @@ returns-6 c =
 
 returns-7 : tie.Need-returns-7
 returns-7 c =
-    header-8 (cut comma (c .before .before .before .before .before .before .before .before .before .before .before .before .before .before .before .before .before .before .before .before .before .before .before .before .before .args .s .now)) (c .before .before .before .before .before .before .before .before .before .before .before .before .before .before .before .before .before .before .before .before .before .before .before .before .before .args .joint) (c .before .before .before .before .before .before .before .before .before .before .before .before .before .before .before .before .before .before .before .before .before .before .before .before .before .pre)
+    header-8 _ (cut comma (c .before .before .before .before .before .before .before .before .before .before .before .before .before .before .before .before .before .before .before .before .before .before .before .before .before .args .s .now)) (c .before .before .before .before .before .before .before .before .before .before .before .before .before .before .before .before .before .before .before .before .before .before .before .before .before .args .joint) (c .before .before .before .before .before .before .before .before .before .before .before .before .before .before .before .before .before .before .before .before .before .before .before .before .before .pre)
     _ (decimal-some _ _ (sym (c .before .before .before .before .before .before .before .before .before .before .before .before .before .before .before .before .before .before .before .before .before .before .before .decimal-at .ensures) ∙ c .before .before .before .before .before .before .before .before .before .before .before .before .before .before .before .before .before .before .before .before .before .first .given .1))
     _ (decimal-some _ _ (sym (c .before .before .before .before .before .before .before .before .before .before .before .before .before .before .before .before .before .before .before .decimal-at2 .ensures) ∙ c .before .before .before .before .before .before .before .before .before .before .before .before .before .before .before .before .before .second .given .1))
     _ (decimal-some _ _ (sym (c .before .before .before .before .before .before .before .before .before .before .before .before .before .before .before .decimal-at3 .ensures) ∙ c .before .before .before .before .before .before .before .before .before .before .before .before .before .third .given .1))
@@ -115,7 +115,7 @@ returns-7 c =
 
 returns-8 : tie.Need-returns-8
 returns-8 c =
-    header-7 (cut comma (c .before .before .before .before .before .before .before .before .before .before .before .before .before .before .before .before .before .before .before .before .before .before .before .args .s .now)) (c .before .before .before .before .before .before .before .before .before .before .before .before .before .before .before .before .before .before .before .before .before .before .before .args .joint) (c .before .before .before .before .before .before .before .before .before .before .before .before .before .before .before .before .before .before .before .before .before .before .before .pre)
+    header-7 _ (cut comma (c .before .before .before .before .before .before .before .before .before .before .before .before .before .before .before .before .before .before .before .before .before .before .before .args .s .now)) (c .before .before .before .before .before .before .before .before .before .before .before .before .before .before .before .before .before .before .before .before .before .before .before .args .joint) (c .before .before .before .before .before .before .before .before .before .before .before .before .before .before .before .before .before .before .before .before .before .before .before .pre)
     _ (decimal-some _ _ (sym (c .before .before .before .before .before .before .before .before .before .before .before .before .before .before .before .before .before .before .before .before .before .decimal-at .ensures) ∙ c .before .before .before .before .before .before .before .before .before .before .before .before .before .before .before .before .before .before .before .first .given .1))
     _ (decimal-some _ _ (sym (c .before .before .before .before .before .before .before .before .before .before .before .before .before .before .before .before .before .decimal-at2 .ensures) ∙ c .before .before .before .before .before .before .before .before .before .before .before .before .before .before .before .second .given .1))
     _ (decimal-some _ _ (sym (c .before .before .before .before .before .before .before .before .before .before .before .before .before .decimal-at3 .ensures) ∙ c .before .before .before .before .before .before .before .before .before .before .before .third .given .1))

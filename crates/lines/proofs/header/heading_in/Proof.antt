@@ -22,14 +22,14 @@ heading-of-requires c κs = search needs
 returns : tie.Need-returns
 returns c =
     c .heading-of .ensures
-    ∙ ap codedHeading (sym (heads-nine (c .before .before .before .before .before .before .before .args .line .now) _ (c .before .before .before .before .letter-of .ensures ∙ ap letter (c .before .before .before .before .before .field .ensures)) (c .before .before .before .if1 .taken) (sym (c .before .before .count .ensures) ∙ c .before .if2 .taken)))
+    ∙ ap codedHeading (sym (heads-nine _ (c .before .before .before .before .before .before .before .args .line .now) _ (c .before .before .before .before .letter-of .ensures ∙ ap letter (c .before .before .before .before .before .field .ensures)) (c .before .before .before .if1 .taken) (sym (c .before .before .count .ensures) ∙ c .before .if2 .taken)))
 
 returns-2 : tie.Need-returns-2
 returns-2 c =
-    ap codedHeading (sym (heads-short (c .before .before .before .before .before .before .args .line .now) _ (c .before .before .before .letter-of .ensures ∙ ap letter (c .before .before .before .before .field .ensures)) (c .before .before .if1 .taken) (λ e. c .if2 .left (c .before .count .ensures ∙ e))))
+    ap codedHeading (sym (heads-short _ (c .before .before .before .before .before .before .args .line .now) _ (c .before .before .before .letter-of .ensures ∙ ap letter (c .before .before .before .before .field .ensures)) (c .before .before .if1 .taken) (λ e. c .if2 .left (c .before .count .ensures ∙ e))))
 
 returns-3 : tie.Need-returns-3
-returns-3 c = ap codedHeading (sym (heads-other (c .before .before .before .before .args .line .now) _ (c .before .letter-of .ensures ∙ ap letter (c .before .before .field .ensures)) (c .if1 .left)))
+returns-3 c = ap codedHeading (sym (heads-other _ (c .before .before .before .before .args .line .now) _ (c .before .letter-of .ensures ∙ ap letter (c .before .before .field .ensures)) (c .if1 .left)))
 
 pub heading-in-spec : {M : Type 1} → statement M
 heading-in-spec =

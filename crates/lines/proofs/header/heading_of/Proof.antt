@@ -29,7 +29,7 @@ returns-2 c = search needs
 returns-3 : tie.Need-returns-3
 returns-3 c =
     let e = c .before .before .letter-of .ensures ∙ ap letter (c .before .before .before .field .ensures) in
-    heading-none (cut comma (c .before .before .before .before .before .args .s .now)) (kind-none (getD (cut comma (c .before .before .before .before .before .args .s .now)) 1 []) (λ h. c .before .if1 .left (e ∙ h)) (λ h. c .if2 .left (e ∙ h)))
+    heading-none _ (cut comma (c .before .before .before .before .before .args .s .now)) (kind-none (getD (cut comma (c .before .before .before .before .before .args .s .now)) 1 []) (λ h. c .before .if1 .left (e ∙ h)) (λ h. c .if2 .left (e ∙ h)))
 
 pub heading-of-spec : {M : Type 1} → statement M
 heading-of-spec =

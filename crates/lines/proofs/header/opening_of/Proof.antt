@@ -22,16 +22,16 @@ enum-told : tie.Need-enum-told
 enum-told c = search needs
 
 returns : tie.Need-returns
-returns c = unheaded (c .before .before .before .before .before .before .before .args .sheet .now) _ (c .before .before .before .before .before .find .ensures) (c .before .before .before .before .if1 .taken) (sym (c .enum-told .given .1) ∙ c .before .before .heading-in .ensures)
+returns c = unheaded _ (c .before .before .before .before .before .before .before .args .sheet .now) _ (c .before .before .before .before .before .find .ensures) (c .before .before .before .before .if1 .taken) (sym (c .enum-told .given .1) ∙ c .before .before .heading-in .ensures)
 
-add-t9 : tie.Need-add-t9
-add-t9 c = search needs
+add-next : tie.Need-add-next
+add-next c = search needs
 
 returns-2 : tie.Need-returns-2
-returns-2 c = opened (c .before .before .before .before .before .before .before .before .args .sheet .now) _ (c .before .before .before .before .before .before .find .ensures) (c .before .before .before .before .before .if1 .taken) _ (sym (c .before .heading .given .1) ∙ c .before .before .before .heading-in .ensures)
+returns-2 c = opened _ (c .before .before .before .before .before .before .before .before .args .sheet .now) _ (c .before .before .before .before .before .before .find .ensures) (c .before .before .before .before .before .if1 .taken) _ (sym (c .before .heading .given .1) ∙ c .before .before .before .heading-in .ensures)
 
 returns-3 : tie.Need-returns-3
-returns-3 c = unended (c .before .before .before .args .sheet .now) _ (c .before .find .ensures) (c .if1 .left)
+returns-3 c = unended _ (c .before .before .before .args .sheet .now) _ (c .before .find .ensures) (c .if1 .left)
 
 pub opening-of-spec : {M : Type 1} → statement M
 opening-of-spec =
@@ -43,6 +43,6 @@ opening-of-spec =
     enum-known-heading
     enum-told
     returns
-    add-t9
+    add-next
     returns-2
     returns-3)

@@ -6,7 +6,6 @@ use mathlib.Core.Option.{some}
 use Prim.Native.Nat.{ℕ}
 use lib.ListN.{drop, take, length-drop}
 use lib.Seq.{length-take-le}
-use Rattle.digits.specs.Limits.{card}
 use Rattle.sheet.specs.Spelling.{lineFeed, readLine}
 use Rattle.sheet.specs.Spelling.Field.{First}
 use Rattle.lines.specs.Coded.{Doubles, coded}
@@ -53,7 +52,7 @@ add-t18 : tie.Need-add-t18
 add-t18 c = omega (arith, doubles c .long, length-drop (at (c .before .before .before)) (sheet (c .before .before .before)), c .before .before .before .before .before .good)
 
 returns-2 : tie.Need-returns-2
-returns-2 c = line-inside (took-double (sheet (c .before .before .before)) (at (c .before .before .before)) (c .before .before .before .if1 .left) (doubles c))
+returns-2 c = line-inside (λ limits h. took-double limits (sheet (c .before .before .before)) (at (c .before .before .before)) (c .before .before .before .if1 .left) (doubles c))
 
 module _ (c : tie.Then4) where
   abbrev short-at : tie.Else1
@@ -84,7 +83,7 @@ returns-3 : tie.Need-returns-3
 returns-3 c =
     let b = begins (c .before .before .before) in
     let start = c .before .before .before .before .before .before .before .before .before in
-    line-inside (took-short (sheet start) (at start) _ _ _ b _ (c .before .point-line .ensures (some (b .point)) (ap Is (b .is))))
+    line-inside (λ limits h. took-short limits h (sheet start) (at start) _ _ _ b _ (c .before .point-line .ensures (some (b .point)) (ap Is (b .is))))
 
 find-requires : tie.Need-find-requires
 find-requires c κs = search needs
@@ -106,14 +105,14 @@ returns-4 c =
     let s = sheet (c .before .before .before .before .before .before .before .before) in
     let i = at (c .before .before .before .before .before .before .before .before) in
     line-inside
-    (took-line s i _ (first (c .before .before .before)) (c .before .before .before .before .before .before .before .before .if1 .left) (omega (arith, length-drop i s)) _
-    (c .line-of .ensures ∙ ap (λ (l : List ℕ). coded (readLine card (take (c .before .before .before .find .result) l))) (to-end s i)))
+    (λ limits h. took-line limits s i _ (first (c .before .before .before)) (c .before .before .before .before .before .before .before .before .if1 .left) (omega (arith, length-drop i s)) _
+    (c .line-of .ensures limits ∙ ap (λ (l : List ℕ). coded (readLine limits (take (c .before .before .before .find .result) l))) (to-end s i)))
 
 returns-5 : tie.Need-returns-5
 returns-5 c =
     let s = sheet (c .before .before .before .before .before .before) in
     let i = at (c .before .before .before .before .before .before) in
-    line-inside (took-last s i _ (first (c .before)) (c .before .before .before .before .before .before .if1 .left) (omega (arith, length-drop i s)))
+    line-inside (λ limits h. took-last limits s i _ (first (c .before)) (c .before .before .before .before .before .before .if1 .left) (omega (arith, length-drop i s)))
 
 pub line-at-spec : {M : Type 1} → statement M
 line-at-spec =

@@ -37,20 +37,20 @@ step-line-requires : tie.Need-step-line-requires
 step-line-requires c κs = search needs
 
 returns : tie.Need-returns
-returns c =
+returns c limits =
     let s = c .before .before .before .before .before .before .before .args .s .now in
     c .step-line .ensures
     ∙ ap (λ (l : List ℕ). coded (stepped (c .before .before .before .letter-of .result) (cut comma l))) (to-end s (c .before .before .before .before .before .find .result + 1))
-    ∙ coded-more s _ _ (c .before .before .before .before .before .find .ensures) (c .before .before .before .letter-of .ensures) (c .before .before .if1 .taken)
+    ∙ coded-more limits s _ _ (c .before .before .before .before .before .find .ensures) (c .before .before .before .letter-of .ensures) (c .before .before .if1 .taken)
 
 returns-2 : tie.Need-returns-2
-returns-2 c = coded-D (c .before .before .before .before .before .before .args .s .now) _ _ (c .before .before .before .before .find .ensures) (c .before .before .letter-of .ensures) (omega arith) (c .if2 .taken)
+returns-2 c limits = coded-D limits (c .before .before .before .before .before .before .args .s .now) _ _ (c .before .before .before .before .find .ensures) (c .before .before .letter-of .ensures) (omega arith) (c .if2 .taken)
 
 returns-3 : tie.Need-returns-3
-returns-3 c = coded-E (c .before .before .before .before .before .before .before .args .s .now) _ _ (c .before .before .before .before .before .find .ensures) (c .before .before .before .letter-of .ensures) (omega arith) (c .if3 .taken)
+returns-3 c limits = coded-E limits (c .before .before .before .before .before .before .before .args .s .now) _ _ (c .before .before .before .before .before .find .ensures) (c .before .before .before .letter-of .ensures) (omega arith) (c .if3 .taken)
 
 returns-4 : tie.Need-returns-4
-returns-4 c = coded-other (c .before .before .before .before .before .before .before .args .s .now) _ _ (c .before .before .before .before .before .find .ensures) (c .before .before .before .letter-of .ensures) (omega arith) (c .before .if2 .left) (c .if3 .left)
+returns-4 c limits = coded-other limits (c .before .before .before .before .before .before .before .args .s .now) _ _ (c .before .before .before .before .before .find .ensures) (c .before .before .before .letter-of .ensures) (omega arith) (c .before .if2 .left) (c .if3 .left)
 
 pub line-of-spec : {M : Type 1} → statement M
 line-of-spec =

@@ -21,19 +21,19 @@ decimal-at-requires c κs = search needs
 returns : tie.Need-returns
 returns c =
     c .decimal-at .ensures
-    ∙ three (cut comma (c .before .before .before .before .before .before .before .before .args .line .now)) (sym (c .before .before .before .before .before .before .is-scalar-at .ensures) ∙ c .before .before .before .before .before .if1 .taken) (sym (c .before .before .before .before .is-scalar-at2 .ensures) ∙ c .before .before .before .if2 .taken) (sym (c .before .before .count .ensures) ∙ c .before .if3 .taken)
+    ∙ three (c .before .before .before .before .before .before .before .before .args .limits) (cut comma (c .before .before .before .before .before .before .before .before .args .line .now)) (sym (c .before .before .before .before .before .before .is-scalar-at .ensures) ∙ c .before .before .before .before .before .if1 .taken) (sym (c .before .before .before .before .is-scalar-at2 .ensures) ∙ c .before .before .before .if2 .taken) (sym (c .before .before .count .ensures) ∙ c .before .if3 .taken)
 
 returns-2 : tie.Need-returns-2
 returns-2 c =
-    not-three (cut comma (c .before .before .before .before .before .before .before .args .line .now)) (sym (c .before .before .before .before .before .is-scalar-at .ensures) ∙ c .before .before .before .before .if1 .taken) (sym (c .before .before .before .is-scalar-at2 .ensures) ∙ c .before .before .if2 .taken) (λ e. c .if3 .left (c .before .count .ensures ∙ e))
+    not-three (c .before .before .before .before .before .before .before .args .limits) (cut comma (c .before .before .before .before .before .before .before .args .line .now)) (sym (c .before .before .before .before .before .is-scalar-at .ensures) ∙ c .before .before .before .before .if1 .taken) (sym (c .before .before .before .is-scalar-at2 .ensures) ∙ c .before .before .if2 .taken) (λ e. c .if3 .left (c .before .count .ensures ∙ e))
 
 returns-3 : tie.Need-returns-3
 returns-3 c =
-    second-bad (cut comma (c .before .before .before .before .before .args .line .now)) (sym (c .before .before .before .is-scalar-at .ensures) ∙ c .before .before .if1 .taken) (sym (c .before .is-scalar-at2 .ensures) ∙ c .if2 .left)
+    second-bad (c .before .before .before .before .before .args .limits) (cut comma (c .before .before .before .before .before .args .line .now)) (sym (c .before .before .before .is-scalar-at .ensures) ∙ c .before .before .if1 .taken) (sym (c .before .is-scalar-at2 .ensures) ∙ c .if2 .left)
 
 returns-4 : tie.Need-returns-4
 returns-4 c =
-    first-bad (cut comma (c .before .before .before .args .line .now)) (sym (c .before .is-scalar-at .ensures) ∙ c .if1 .left)
+    first-bad (c .before .before .before .args .limits) (cut comma (c .before .before .before .args .line .now)) (sym (c .before .is-scalar-at .ensures) ∙ c .if1 .left)
 
 pub slots-of-spec : {M : Type 1} → statement M
 slots-of-spec =

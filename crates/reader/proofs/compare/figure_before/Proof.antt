@@ -35,7 +35,7 @@ returns-2 c =
     record {
       start = omega arith;
       is = ap (before (a .figures .now)) e ∙ before-last (a .figures .now) i (omega (arith, p .0)) ∙ omega (arith, c .worth-of .ensures);
-      small = omega (arith, c .worth-of .ensures, figure-small (a .figures .now) i (p .1 .1) (omega (arith, p .0)));
+      small = omega (arith, c .worth-of .ensures, figure-small (a .figures .now) i (p .1) (omega (arith, p .0)));
     }
 
 pub figure-before-spec : {M : Type 1} → statement M

@@ -14,10 +14,10 @@ use Rattle.reader.proofs.compare.reaches.Tie as tie
 
 abbrev Inv-loop : tie.InvT-loop
 Inv-loop from to figures end₀ left₀ right₀ i₀ end left right i =
-    (i ≤ 34) × (end ≡ length figures - 4 * i) × (left ≤ 140737488355328) × (right ≤ 140737488355328) × (eqb (before figures end + value (drop i from) + left) (value (drop i to) + right) ≡ eqb (followed 16 0 figures + value from) (value to))
+    (i ≤ length from) × (end ≡ length figures - 4 * i) × (left ≤ 281474976710656) × (right ≤ 281474976710656) × (eqb (before figures end + value (drop i from) + left) (value (drop i to) + right) ≡ eqb (followed 16 0 figures + value from) (value to))
 
 abbrev μ-loop : tie.MeasureT-loop
-μ-loop from to figures end₀ left₀ right₀ i₀ end left right i = 34 - i
+μ-loop from to figures end₀ left₀ right₀ i₀ end left right i = length from - i
 
 loop-holds : tie.Need-loop-holds Inv-loop μ-loop
 loop-holds c =
@@ -41,12 +41,12 @@ shared-slice-read-a c = search needs
 add-a : tie.Need-add-a Inv-loop μ-loop
 add-a c =
     let l = c .before .before .before .before in
-    omega (arith, c .before .before .limb-before .ensures .small, l .before .before .before .before .pre .0 .high (l .loop .i) (omega arith))
+    omega (arith, c .before .before .limb-before .ensures .small, l .before .before .before .before .pre .0 .0 .high (l .loop .i) (omega arith))
 
 add-a-2 : tie.Need-add-a-2 Inv-loop μ-loop
 add-a-2 c =
     let l = c .before .before .before .before in
-    omega (arith, c .before .before .limb-before .ensures .small, l .before .before .before .before .pre .0 .high (l .loop .i) (omega arith), l .loop .inv .2)
+    omega (arith, c .before .before .limb-before .ensures .small, l .before .before .before .before .pre .0 .0 .high (l .loop .i) (omega arith), l .loop .inv .2)
 
 mul-b : tie.Need-mul-b Inv-loop μ-loop
 mul-b c = search needs
@@ -57,7 +57,7 @@ shared-slice-read-b c = search needs
 add-b : tie.Need-add-b Inv-loop μ-loop
 add-b c =
     let l = c .before .before .before .before .before in
-    omega (arith, l .before .before .before .before .pre .1 .0 .high (l .loop .i) (omega arith), l .loop .inv .3)
+    omega (arith, l .before .before .before .before .pre .0 .1 .0 .high (l .loop .i) (omega (arith, l .before .before .before .before .pre .0 .1 .1)), l .loop .inv .3)
 
 returns : tie.Need-returns Inv-loop μ-loop
 returns c =
@@ -65,7 +65,7 @@ returns c =
     let s = c .before .before .before .before .before .before .before .before .before .before in
     let r = c .before .before .before .before .limb-before in
     sum-stop (before (s .args .figures .now) (l .end)) (before (s .args .figures .now) (r .result .start)) (r .result .value) (r .ensures .is) (s .args .from .now) (s .args .to .now)
-    (l .i) (l .left) (l .right) (omega (arith, s .pre .0 .long)) (omega (arith, s .pre .1 .0 .long)) (c .if1 .taken)
+    (l .i) (l .left) (l .right) (omega arith) (omega (arith, s .pre .0 .1 .1)) (c .if1 .taken)
     ∙ l .inv .4
 
 add-i : tie.Need-add-i Inv-loop μ-loop
@@ -81,20 +81,20 @@ loop-again c =
     let r = c .before .before .before .before .limb-before in (
       omega arith,
       omega (arith, r .ensures .start, l .inv .1),
-      omega (arith, r .ensures .small, s .pre .0 .high (l .i) (omega arith), l .inv .2),
-      omega (arith, s .pre .1 .0 .high (l .i) (omega arith), l .inv .3),
+      omega (arith, r .ensures .small, s .pre .0 .0 .high (l .i) (omega arith), l .inv .2),
+      omega (arith, s .pre .0 .1 .0 .high (l .i) (omega (arith, s .pre .0 .1 .1)), l .inv .3),
       sum-turn (before (s .args .figures .now) (l .end)) (before (s .args .figures .now) (r .result .start)) (r .result .value) (r .ensures .is) (s .args .from .now) (s .args .to .now)
-          (l .i) (l .left) (l .right) (omega (arith, s .pre .0 .long)) (omega (arith, s .pre .1 .0 .long)) (c .if1 .left) ∙ l .inv .4,
+          (l .i) (l .left) (l .right) (omega arith) (omega (arith, s .pre .0 .1 .1)) (c .if1 .left) ∙ l .inv .4,
     )
 
 returns-2 : tie.Need-returns-2 Inv-loop μ-loop
 returns-2 c =
     let s = c .before .before .before .before .before in
     let l = c .before .loop in
-    let none : l .end ≡ 0 = omega (arith, l .inv .1, s .pre .1 .1 .0) in
+    let none : l .end ≡ 0 = omega (arith, l .inv .1, s .pre .1 .1) in
     sum-end (before (s .args .figures .now) (l .end)) (s .args .from .now) (s .args .to .now) (l .i) (l .left) (l .right)
     (ap (before (s .args .figures .now)) none ∙ before-none (s .args .figures .now))
-    (omega (arith, s .pre .0 .long)) (omega (arith, s .pre .1 .0 .long))
+    (omega arith) (omega (arith, s .pre .0 .1 .1))
     ∙ l .inv .4
 
 pub reaches-spec : {M : Type 1} → statement M

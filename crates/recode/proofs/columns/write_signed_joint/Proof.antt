@@ -24,14 +24,17 @@ places-requires c κs = search needs
 
 -- as many places as the columns of the bytes
 module _ (c : tie.After-places) where
+  abbrev written : tie.After-write-joint
+  written = c .before .before .before .before .before .before .before .before .before
+
   abbrev asked : tie.Start
-  asked = c .before .before .before .before .before .before .before .before .before .before .before .before
+  asked = written .before .before .before .before .before .before .before .before .before .before .before
 
   abbrev columns : List Column
   columns = joint (pos (scalar (asked .args .k .now))) (pos (scalar (asked .args .l .now)))
 
   places : c .places .result ≡ length columns
-  places = c .places .ensures ∙ ap placesWritten (c .before .before .before .before .before .write-joint .ensures .0)
+  places = c .places .ensures ∙ ap placesWritten (written .write-joint .ensures .0)
 
 give-sign-requires : tie.Need-give-sign-requires
 give-sign-requires c κs =
@@ -39,7 +42,7 @@ give-sign-requires c κs =
     omega (
       arith,
       places p,
-      ap length (p .before .before .before .before .before .write-joint .ensures .1 .0),
+      ap length (written p .write-joint .ensures .1 .0),
       row-length two P (columns p),
       filled-holds (row two P (columns p)) (asked p .args .k-out .now),
     )
@@ -50,7 +53,7 @@ give-sign-requires-2 c κs =
     omega (
       arith,
       places p,
-      ap length (p .before .before .before .before .before .write-joint .ensures .1 .1),
+      ap length (written p .write-joint .ensures .1 .1),
       row-length two Q (columns p),
       filled-holds (row two Q (columns p)) (asked p .args .l-out .now),
     )
@@ -61,11 +64,17 @@ same-length c = search needs
 same-length-2 : tie.Need-same-length-2
 same-length-2 c = search needs
 
+same-length-3 : tie.Need-same-length-3
+same-length-3 c = search needs
+
+same-length-4 : tie.Need-same-length-4
+same-length-4 c = search needs
+
 returns : tie.Need-returns
 returns c =
     let p = c .before .before .before .before .before .before .before .before in
     let a = asked p .args in
-    let w = p .before .before .before .before .before .write-joint in
+    let w = written p .write-joint in
     let n = p .places .result in
     let signed = signed-columns (a .k .now) (a .k-sign) (a .l .now) (a .l-sign) in (
       w .ensures .0 ∙ wrote-signed-columns (a .k .now) (a .k-sign) (a .l .now) (a .l-sign),
@@ -89,4 +98,6 @@ write-signed-joint-spec =
     give-sign-requires-2
     same-length
     same-length-2
+    same-length-3
+    same-length-4
     returns)

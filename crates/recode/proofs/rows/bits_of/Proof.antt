@@ -1,4 +1,4 @@
--- `bits_of` meets its contract: a scalar of at most 66 bytes has at most 528 bits.
+-- `bits_of` meets its contract: a scalar of at most 128 bytes has at most 1,024 bits.
 use Prim.Native.Nat.{_+_, _*_, _≤_}
 use native.Mathlib.Omega.{arith}
 use borrow.Author.Needs.{needs}
@@ -10,7 +10,7 @@ bit-length-requires : tie.Need-bit-length-requires
 bit-length-requires c κs = search needs
 
 module _ (c : tie.After-bit-length) where
-  few : 8 * c .bit-length .result .below + c .bit-length .result .top ≤ 528
+  few : 8 * c .bit-length .result .below + c .bit-length .result .top ≤ 1024
   few =
       omega (arith, c .bit-length .ensures, c .before .before .pre, length-bytes (c .before .before .args .scalar .now) (λ i. c .before .shared-slice-known .given i .fits))
 

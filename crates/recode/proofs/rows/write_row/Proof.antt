@@ -1,6 +1,7 @@
 -- `write_row` meets its contract: the bytes copied have the scalar's value, and the places up to the bit length plus one
 -- hold the whole row.
 use mathlib.Core.Path.{_≡_, sym, ap, _∙_}
+use mathlib.Core.List.{List}
 use Prim.Native.Nat.{ℕ, _+_, _*_, _-_, _/_, _≤_}
 use native.Mathlib.Omega.{arith}
 use borrow.Author.Needs.{needs}
@@ -18,19 +19,22 @@ use Rattle.recode.proofs.rows.write_row.Tie as tie
 bits-of-requires : tie.Need-bits-of-requires
 bits-of-requires c κs = search needs
 
+abbrev asked : tie.After-bits-of → tie.Start
+asked c = c .before .before .before .before
+
 module _ (c : tie.After-bits-of) where
-  few : c .bits-of .result ≤ 8 * length (c .before .before .before .args .scalar .now)
+  few : c .bits-of .result ≤ 8 * length (asked c .args .scalar .now)
   few =
-      omega (arith, c .bits-of .ensures, length-bytes (c .before .before .before .args .scalar .now) (λ i. c .before .before .shared-slice-known .given i .fits))
+      omega (arith, c .bits-of .ensures, length-bytes (asked c .args .scalar .now) (λ i. c .before .before .before .shared-slice-known .given i .fits))
 
 add-used : tie.Need-add-used
-add-used c = omega (arith, few c, c .before .before .before .pre)
+add-used c = omega (arith, few c, asked c .pre)
 
 add-places : tie.Need-add-places
-add-places c = omega (arith, few c, c .before .before .before .pre)
+add-places c = omega (arith, few c, asked c .pre)
 
-copied-requires : tie.Need-copied-requires
-copied-requires c κs = search needs
+copy-into-requires : tie.Need-copy-into-requires
+copy-into-requires c κs = search needs
 
 clear-requires : tie.Need-clear-requires
 clear-requires c κs = search needs
@@ -38,48 +42,53 @@ clear-requires c κs = search needs
 half-of-requires : tie.Need-half-of-requires
 half-of-requires c κs = search needs
 
-slice-aggregate-write-digits : tie.Need-slice-aggregate-write-digits
-slice-aggregate-write-digits c = search needs
-
 -- once the buffer is cleared: its first places, and the number that was copied
 module _ (c : tie.After-clear) where
-  enough : c .before .before .before .bits-of .result + 1 ≤ length (c .before .before .before .before .before .before .args .out .now)
-  enough = omega (arith, few (c .before .before .before), c .before .before .before .before .before .before .pre)
+  abbrev sized : tie.After-bits-of
+  sized = c .before .before .before .before .before .before
 
-  number : little (c .before .before .copied .result) ≡ scalar (c .before .before .before .before .before .before .args .scalar .now)
+  abbrev bits : ℕ
+  bits = sized .bits-of .result
+
+  abbrev bytes : List ℕ
+  bytes = c .before .before .before .before .copy-into .last .1 .0
+
+  abbrev out : List ℕ
+  out = asked sized .args .out .now
+
+  enough : bits + 1 ≤ length out
+  enough = omega (arith, few sized, asked sized .pre)
+
+  number : little bytes ≡ scalar (asked sized .args .scalar .now)
   number =
-      ap little (c .before .before .copied .ensures)
-      ∙ little-copied (c .before .before .before .before .before .before .args .scalar .now)
-      (67 - length (c .before .before .before .before .before .before .args .scalar .now))
+      let a = asked sized .args in
+      ap little (c .before .before .before .before .copy-into .ensures) ∙ little-copied (a .scalar .now) (length (a .remainder .now) - length (a .scalar .now))
 
-  short : length (row (c .before .before .before .before .before .before .args .m) (pos (little (c .before .before .copied .result)))) ≤ c .before .before .before .bits-of .result + 1
+  short : length (row (asked sized .args .m) (pos (little bytes))) ≤ bits + 1
   short =
-      let s = c .before .before .before .before .before .before .args .scalar .now in
-      let m = c .before .before .before .before .before .before .args .m in
-      rw number (omega (arith, row-length m (pos (scalar s)) (c .before .before .before .before .before .before .pre .1 .0), c .before .before .before .bits-of .ensures))
+      let a = asked sized .args in
+      rw number (omega (arith, row-length (a .m) (pos (scalar (a .scalar .now))) (asked sized .pre .0 .1 .0), sized .bits-of .ensures))
 
 slice-relend-prefix-write-digits : tie.Need-slice-relend-prefix-write-digits
 slice-relend-prefix-write-digits c =
     let k = c .before .before .before .before in
     omega (arith, enough k, k .clear .kept)
 
-slice-aggregate-write-digits-2 : tie.Need-slice-aggregate-write-digits-2
-slice-aggregate-write-digits-2 c =
+slice-aggregate-write-digits : tie.Need-slice-aggregate-write-digits
+slice-aggregate-write-digits c =
     let k = c .before .before .before .before .before in
-    sym (first-length (k .before .before .before .before .before .before .args .out .now) (k .clear .last .0) _ (k .clear .ensures) (enough k))
+    sym (first-length (out k) (k .clear .last .0) _ (k .clear .ensures) (enough k))
 
 write-digits-requires : tie.Need-write-digits-requires
 write-digits-requires c κs =
     let k = c .before .before .before .before .before in
-    let p = k .before .before .before .before .before .before .pre in
-    let out = k .before .before .before .before .before .before .args .out .now in
-    let bits = k .before .before .before .bits-of .result in (
+    let p = asked (sized k) .pre .0 in (
       (p .1 .0, (p .1 .1 .0, c .before .before .half-of .ensures)),
       (
-        ap (λ (n : ℕ). (n + 7) / 8) (k .before .before .before .bits-of .ensures ∙ ap bitLength (sym (number k))),
+        ap (λ (n : ℕ). (n + 7) / 8) (sized k .bits-of .ensures ∙ ap bitLength (sym (number k))),
         (
-          first-cleared out (k .clear .last .0) (bits + 1) (k .clear .ensures) (enough k),
-          omega (arith, short k, first-length out (k .clear .last .0) (bits + 1) (k .clear .ensures) (enough k)),
+          first-cleared (out k) (k .clear .last .0) (bits k + 1) (k .clear .ensures) (enough k),
+          omega (arith, short k, first-length (out k) (k .clear .last .0) (bits k + 1) (k .clear .ensures) (enough k)),
         ),
       ),
     )
@@ -87,16 +96,17 @@ write-digits-requires c κs =
 same-length : tie.Need-same-length
 same-length c = search needs
 
+same-length-2 : tie.Need-same-length-2
+same-length-2 c = search needs
+
 returns : tie.Need-returns
 returns c =
     let k = c .before .before .before .before .before .before .before .before in
     let w = c .before .before .write-digits in
-    let out = k .before .before .before .before .before .before .args .out .now in
-    let m = k .before .before .before .before .before .before .args .m in
-    let bits = k .before .before .before .bits-of .result in (
+    let m = asked (sized k) .args .m in (
       w .ensures .0 ∙ ap (λ (n : ℕ). wroteRow (row m (pos n))) (number k),
-      first-filled out (k .clear .last .0) (bits + 1) (k .clear .ensures) (enough k) (row m (pos (little (k .before .before .copied .result)))) _ (short k) (w .ensures .1)
-          ∙ ap (λ (n : ℕ). filled (row m (pos n)) out) (number k),
+      first-filled (out k) (k .clear .last .0) (bits k + 1) (k .clear .ensures) (enough k) (row m (pos (little (bytes k)))) _ (short k) (w .ensures .1)
+          ∙ ap (λ (n : ℕ). filled (row m (pos n)) (out k)) (number k),
     )
 
 pub write-row-spec : {M : Type 1} → statement M
@@ -106,12 +116,12 @@ write-row-spec =
     bits-of-requires
     add-used
     add-places
-    copied-requires
+    copy-into-requires
     clear-requires
     half-of-requires
-    slice-aggregate-write-digits
     slice-relend-prefix-write-digits
-    slice-aggregate-write-digits-2
+    slice-aggregate-write-digits
     write-digits-requires
     same-length
+    same-length-2
     returns)

@@ -48,13 +48,13 @@ same-length : tie.Need-same-length
 same-length c = search needs
 
 returns : tie.Need-returns
-returns c = λ n z h.
+returns c = λ m n z h.
     let a = c .before .before .args in
     let p = c .before .before .pre in
     let l : a .digit .size < 4294967296 = omega arith in
     let u = units-are (a .digit .size) (a .place) l in
     let limb = getD (a .limbs .now) (a .place / 16) 0 in
-    let is : ℕ → Type 0 = λ y. Holds (suc n) (set (a .limbs .now) (a .place / 16) y) (z +ℤ pos (2 ^ a .place) *ℤ whole (a .digit)) in
+    let is : ℕ → Type 0 = λ y. Holds m (suc n) (set (a .limbs .now) (a .place / 16) y) (z +ℤ pos (2 ^ a .place) *ℤ whole (a .digit)) in
     ⊎-elim
     (λ t. subst is (sym (t .1 ∙ ap (λ (m : ℕ). limb - m) u))
     (digit-minus h (a .place) (a .digit) (p .1) l (t .0 .taken) (omega (arith, units-most (a .digit .size) (a .place) l, p .0 .least (a .place / 16) (omega (arith, p .1))))))

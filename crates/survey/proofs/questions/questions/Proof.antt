@@ -37,18 +37,18 @@ counts-requires : tie.Need-counts-requires
 counts-requires c κs = search needs
 
 returns : tie.Need-returns
-returns c = λ ls a. answer-7 a _ (ap found (c .before .off-plan .given .1))
+returns c = λ limits ls a. answer-7 a _ (ap found (c .before .off-plan .given .1))
 
 returns-2 : tie.Need-returns-2
-returns-2 c = λ ls a. answer-8 a (ap found (c .before .before .before .enum-told .given .1)) _ (ap found (c .before .disallowed .given .1))
+returns-2 c = λ limits ls a. answer-8 a (ap found (c .before .before .before .enum-told .given .1)) _ (ap found (c .before .disallowed .given .1))
 
 returns-3 : tie.Need-returns-3
-returns-3 c = λ ls a. answer-9 a (ap found (c .before .before .before .before .before .enum-told .given .1)) (ap found (c .before .before .before .enum-told2 .given .1)) _ (ap found (c .before .excess .given .1))
+returns-3 c = λ limits ls a. answer-9 a (ap found (c .before .before .before .before .before .enum-told .given .1)) (ap found (c .before .before .before .enum-told2 .given .1)) _ (ap found (c .before .excess .given .1))
 
 returns-4 : tie.Need-returns-4
 returns-4 c =
-    λ ls a.
-    c .counts .ensures ls a
+    λ limits ls a.
+    c .counts .ensures limits ls a
     (record {
       tables = ap found (c .before .before .before .before .before .enum-told .given .1);
       steps = ap found (c .before .before .before .enum-told2 .given .1);

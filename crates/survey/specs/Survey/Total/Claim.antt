@@ -7,7 +7,7 @@ use native.Mathlib.Nat.{pow-suc}
 use native.Mathlib.Omega.{arith}
 use lib.IntN.{ℤ, pos, _+ℤ_, _*ℤ_}
 use borrow.Author.Tests.{le-leb}
-use Rattle.digits.specs.Limits.{card}
+use Rattle.digits.specs.declared.limits.Limits.{Limits}
 use Rattle.digits.specs.Integer.{up, down}
 use Rattle.digits.specs.Integer.Parts.{integers, sum, times}
 use Rattle.digits.specs.Two.{Two, P, Q, digit}
@@ -108,32 +108,36 @@ steps-few (suc left) n [] (loaded t ms) e = moves-few (suc left) (suc n) ms e
 steps-few zero n (t ∷ ts) st e = steps-few zero (suc n) ts st e
 steps-few (suc left) n (t ∷ ts) st e = steps-few (suc left) (suc n) ts st e
 
-lines-few : (h : Header) (ts : List Point) (st : Steps) → excess card (sheetLines h ts st) ≡ none → stepDoubles st ≤ 528
+lines-few : (limits : Limits) (h : Header) (ts : List Point) (st : Steps) → excess limits (sheetLines h ts st) ≡ none → stepDoubles st ≤ limits .doublings
 unfolding excess excessFrom sheetLines
-lines-few h ts st e = steps-few 528 2 ts st e
+lines-few limits h ts st e = behind-header (limits .doublings) e
+  where
+    behind-header : (left : ℕ) → excessFrom left 1 (header h ∷ (map table ts ++ (stepLines st ++ (end ∷ [])))) ≡ none → stepDoubles st ≤ left
+    behind-header zero f = steps-few zero 2 ts st f
+    behind-header (suc left) f = steps-few (suc left) 2 ts st f
 
 -- the header's doublings less those of the table are the D lines
-module _ (h : Header) (st : Steps) (d : h .doublings ≡ doublings (sheetLines h (tables (plan h)) st)) (few : stepDoubles st ≤ 528) where
-  claim-is : claimedBy h ≡ stepDoubles st
+module _ (limits : Limits) (h : Header) (st : Steps) (d : h .doublings ≡ doublings (sheetLines h (tables (plan h)) st)) (few : stepDoubles st ≤ limits .doublings) where
+  claim-is : claimedBy limits h ≡ stepDoubles st
   claim-is =
       let n : h .doublings - tableDoublings (plan h) ≡ stepDoubles st = omega (arith, d, lines-doublings h (tables (plan h)) st, tables-doublings (plan h)) in
-      rw (n, le-leb (stepDoubles st) 528 few)
+      rw (n, le-leb (stepDoubles st) (limits .doublings) few)
 
 same-head : (h g : Header) (rest : List Line) (ts : List Point) (st : Steps) → header h ∷ rest ≡ sheetLines g ts st → h ≡ g
 unfolding sheetLines
 same-head h g rest ts st e = cc
 
-pub claim-true : (ls : List Line) (h : Header) (rest : List Line) → ls ≡ header h ∷ rest → misplaced ls ≡ none → offPlan h ls ≡ none → excess card ls ≡ none → h .doublings ≡ doublings ls
-    → (r : Two) → total r (claimedBy h) (pos 0) ls ≡ digit (result ls) r
-claim-true ls h rest i m o x d r =
+pub claim-true : (limits : Limits) (ls : List Line) (h : Header) (rest : List Line) → ls ≡ header h ∷ rest → misplaced ls ≡ none → offPlan h ls ≡ none → excess limits ls ≡ none → h .doublings ≡ doublings ls
+    → (r : Two) → total r (claimedBy limits h) (pos 0) ls ≡ digit (result ls) r
+claim-true limits ls h rest i m o x d r =
     let l : LaidOut ls = laid-out ls m in
     let st = l .steps in
     let hd : h ≡ l .head = same-head h (l .head) rest (l .points) st (sym i ∙ l .laid) in
     let laid : ls ≡ sheetLines h (l .points) st = l .laid ∙ ap (λ (g : Header). sheetLines g (l .points) st) (sym hd) in
     let pl = planned-of h (l .points) st (sym (ap (offPlan h) laid) ∙ o) in
     let all : ls ≡ sheetLines h (tables (plan h)) st = laid ∙ ap (λ (ts : List Point). sheetLines h ts st) (sym (pl .same)) in
-    let few = lines-few h (tables (plan h)) st (sym (ap (excess card) all) ∙ x) in
-    ap (λ (k : ℕ). total r k (pos 0) ls) (claim-is h st (d ∙ ap doublings all) few)
+    let few = lines-few limits h (tables (plan h)) st (sym (ap (excess limits) all) ∙ x) in
+    ap (λ (k : ℕ). total r k (pos 0) ls) (claim-is limits h st (d ∙ ap doublings all) few)
     ∙ ap (total r (stepDoubles st) (pos 0)) all
     ∙ lines-total r h (tables (plan h)) st
     ∙ ap (λ (k : List Line). digit (result k) r) (sym all)

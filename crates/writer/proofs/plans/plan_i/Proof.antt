@@ -1,63 +1,43 @@
--- `plan_i` meets its contract: each return is one line of PlanAnswers.
-use mathlib.Core.Path.{sym, _∙_}
-use native.Mathlib.Omega.{arith}
-use Rattle.digits.specs.Scalar.{Bytes}
-use Rattle.writer.proofs.PlanAnswers.{i-scalar, i-window, i-room, i-written}
+-- `plan_i` meets its contract: that of `plan_i_within`, by the limits of the card.
+use mathlib.Core.Path.{sym, subst}
 use borrow.Author.Needs.{needs}
+use Rattle.digits.specs.declared.limits.Limits.{Limits}
+use Rattle.writer.specs.Body.Parts.{Served}
+use Rattle.writer.proofs.PlanAnswers.{ReturnedI, card-served}
 use Rattle.writer.proofs.plans.plan_i.Statement.{statement}
 use Rattle.writer.proofs.plans.plan_i.Tie as tie
 
--- the bytes of both scalars
-module _ (c : tie.After-are-scalars) where
-  k-bytes : Bytes (c .before .before .before .before .args .k .now)
-  k-bytes i = c .before .before .before .shared-slice-known .given i .fits
+card-requires : tie.Need-card-requires
+card-requires c κs = search needs
 
-  l-bytes : Bytes (c .before .before .before .before .args .l .now)
-  l-bytes i = c .before .before .shared-slice-known2 .given i .fits
+slice-aggregate-plan-i-within : tie.Need-slice-aggregate-plan-i-within
+slice-aggregate-plan-i-within c = search needs
 
-are-scalars-requires : tie.Need-are-scalars-requires
-are-scalars-requires c κs = search needs
+slice-aggregate-plan-i-within-2 : tie.Need-slice-aggregate-plan-i-within-2
+slice-aggregate-plan-i-within-2 c = search needs
 
-are-windows-requires : tie.Need-are-windows-requires
-are-windows-requires c κs = search needs
-
-returns : tie.Need-returns
-returns c =
-    let a = c .before .before .before .before .before .before .before .before .args in
-    i-room (a .k .now) (a .k-sign) (a .l .now) (a .l-sign) (a .sheet .now) (k-bytes (c .before .before .before .before)) (l-bytes (c .before .before .before .before)) (a .m1) (a .m2) (sym (c .before .before .before .before .are-scalars .ensures) ∙ c .before .before .before .if1 .taken) (sym (c .before .before .are-windows .ensures) ∙ c .before .if2 .taken) (omega (arith, c .if3 .taken))
-
-write-i-requires : tie.Need-write-i-requires
-write-i-requires c κs =
-    (sym (c .before .before .before .before .before .are-scalars .ensures) ∙ c .before .before .before .before .if1 .taken, (sym (c .before .before .before .are-windows .ensures) ∙ c .before .before .if2 .taken, c .before .if3 .left))
+plan-i-within-requires : tie.Need-plan-i-within-requires
+plan-i-within-requires c κs =
+    subst (λ (limits : Limits). Served limits _ _) (sym (c .before .before .before .card .ensures)) card-served
 
 same-length : tie.Need-same-length
 same-length c = search needs
 
-returns-2 : tie.Need-returns-2
-returns-2 c =
-    let w = c .before .before in
-    let a = w .before .before .before .before .before .before .before .before .before .before .args in
-    i-written (a .k .now) (a .k-sign) (a .l .now) (a .l-sign) (a .sheet .now) (k-bytes (w .before .before .before .before .before .before)) (l-bytes (w .before .before .before .before .before .before)) (a .m1) (a .m2) (sym (w .before .before .before .before .before .before .are-scalars .ensures) ∙ w .before .before .before .before .before .if1 .taken) (sym (w .before .before .before .before .are-windows .ensures) ∙ w .before .before .before .if2 .taken) (w .before .before .if3 .left) (w .write-i .ensures .0) (w .write-i .ensures .1)
-
-returns-3 : tie.Need-returns-3
-returns-3 c =
-    let a = c .before .before .before .before .before .before .before .args in
-    i-window (a .k .now) (a .k-sign) (a .l .now) (a .l-sign) (a .sheet .now) (k-bytes (c .before .before .before)) (l-bytes (c .before .before .before)) (a .m1) (a .m2) (sym (c .before .before .before .are-scalars .ensures) ∙ c .before .before .if1 .taken) (sym (c .before .are-windows .ensures) ∙ c .if2 .left)
-
-returns-4 : tie.Need-returns-4
-returns-4 c =
-    let a = c .before .before .before .before .before .args in
-    i-scalar (a .k .now) (a .k-sign) (a .l .now) (a .l-sign) (a .sheet .now) (k-bytes (c .before)) (l-bytes (c .before)) (a .m1) (a .m2) (sym (c .before .are-scalars .ensures) ∙ c .if1 .left)
+returns : tie.Need-returns
+returns c =
+    let w = c .before .before .before .before in
+    let l = w .before .before .before .before in
+    let a = l .before .before .before .before .args in
+    subst (λ (limits : Limits). ReturnedI limits (a .k .now) (a .k-sign) (a .l .now) (a .l-sign) (a .sheet .now) (a .m1) (a .m2) (w .plan-i-within .result) (w .plan-i-within .last .1 .1 .1 .1 .1 .1 .1 .0)) (l .card .ensures)
+    (w .plan-i-within .ensures)
 
 pub plan-i-spec : {M : Type 1} → statement M
 plan-i-spec =
     tie.close
     (tie.spec
-    are-scalars-requires
-    are-windows-requires
-    returns
-    write-i-requires
+    card-requires
+    slice-aggregate-plan-i-within
+    slice-aggregate-plan-i-within-2
+    plan-i-within-requires
     same-length
-    returns-2
-    returns-3
-    returns-4)
+    returns)

@@ -1,46 +1,43 @@
--- `plan_j` meets its contract: each return is one line of PlanAnswers.
-use mathlib.Core.Path.{sym, _∙_}
-use native.Mathlib.Omega.{arith}
-use Rattle.digits.specs.Scalar.{Bytes}
-use Rattle.writer.proofs.PlanAnswers.{j-scalar, j-room, j-written}
+-- `plan_j` meets its contract: that of `plan_j_within`, by the limits of the card.
+use mathlib.Core.Path.{sym, subst}
 use borrow.Author.Needs.{needs}
+use Rattle.digits.specs.declared.limits.Limits.{Limits}
+use Rattle.writer.specs.Body.Parts.{Served}
+use Rattle.writer.proofs.PlanAnswers.{ReturnedJ, card-served}
 use Rattle.writer.proofs.plans.plan_j.Statement.{statement}
 use Rattle.writer.proofs.plans.plan_j.Tie as tie
 
--- the bytes of both scalars
-module _ (c : tie.After-are-scalars) where
-  k-bytes : Bytes (c .before .before .before .before .args .k .now)
-  k-bytes i = c .before .before .before .shared-slice-known .given i .fits
+card-requires : tie.Need-card-requires
+card-requires c κs = search needs
 
-  l-bytes : Bytes (c .before .before .before .before .args .l .now)
-  l-bytes i = c .before .before .shared-slice-known2 .given i .fits
+slice-aggregate-plan-j-within : tie.Need-slice-aggregate-plan-j-within
+slice-aggregate-plan-j-within c = search needs
 
-are-scalars-requires : tie.Need-are-scalars-requires
-are-scalars-requires c κs = search needs
+slice-aggregate-plan-j-within-2 : tie.Need-slice-aggregate-plan-j-within-2
+slice-aggregate-plan-j-within-2 c = search needs
 
-returns : tie.Need-returns
-returns c =
-    let a = c .before .before .before .before .before .before .args in
-    j-room (a .k .now) (a .k-sign) (a .l .now) (a .l-sign) (a .sheet .now) (k-bytes (c .before .before)) (l-bytes (c .before .before)) (sym (c .before .before .are-scalars .ensures) ∙ c .before .if1 .taken) (omega (arith, c .if2 .taken))
-
-write-j-requires : tie.Need-write-j-requires
-write-j-requires c κs = (sym (c .before .before .before .are-scalars .ensures) ∙ c .before .before .if1 .taken, c .before .if2 .left)
+plan-j-within-requires : tie.Need-plan-j-within-requires
+plan-j-within-requires c κs =
+    subst (λ (limits : Limits). Served limits _ _) (sym (c .before .before .before .card .ensures)) card-served
 
 same-length : tie.Need-same-length
 same-length c = search needs
 
-returns-2 : tie.Need-returns-2
-returns-2 c =
-    let w = c .before .before in
-    let a = w .before .before .before .before .before .before .before .before .args in
-    j-written (a .k .now) (a .k-sign) (a .l .now) (a .l-sign) (a .sheet .now) (k-bytes (w .before .before .before .before)) (l-bytes (w .before .before .before .before)) (sym (w .before .before .before .before .are-scalars .ensures) ∙ w .before .before .before .if1 .taken) (w .before .before .if2 .left) (w .write-j .ensures .0) (w .write-j .ensures .1)
-
-returns-3 : tie.Need-returns-3
-returns-3 c =
-    let a = c .before .before .before .before .before .args in
-    j-scalar (a .k .now) (a .k-sign) (a .l .now) (a .l-sign) (a .sheet .now) (k-bytes (c .before)) (l-bytes (c .before)) (sym (c .before .are-scalars .ensures) ∙ c .if1 .left)
+returns : tie.Need-returns
+returns c =
+    let w = c .before .before .before .before in
+    let l = w .before .before .before .before in
+    let a = l .before .before .before .before .args in
+    subst (λ (limits : Limits). ReturnedJ limits (a .k .now) (a .k-sign) (a .l .now) (a .l-sign) (a .sheet .now) (w .plan-j-within .result) (w .plan-j-within .last .1 .1 .1 .1 .1 .0)) (l .card .ensures)
+    (w .plan-j-within .ensures)
 
 pub plan-j-spec : {M : Type 1} → statement M
 plan-j-spec =
     tie.close
-    (tie.spec are-scalars-requires returns write-j-requires same-length returns-2 returns-3)
+    (tie.spec
+    card-requires
+    slice-aggregate-plan-j-within
+    slice-aggregate-plan-j-within-2
+    plan-j-within-requires
+    same-length
+    returns)

@@ -1,22 +1,16 @@
 -- `write_j` meets its contract: after the joint call the two rows hold the digits (DigitRows).
-use mathlib.Core.Path.{refl}
 use mathlib.Core.Bool.{and-eq-true-iff}
-use Rattle.digits.specs.Scalar.{sized}
-use Rattle.digits.specs.Limits.{card}
+use lib.ListN.{length}
+use Rattle.digits.specs.Scalar.{Bytes, sized}
+use Rattle.digits.specs.Limits.{gateway}
 use Rattle.written.specs.Valid.{forJ}
-use Rattle.writer.proofs.DigitRows.{in-bounds, joint-holds, joint-counts}
+use Rattle.writer.proofs.DigitRows.{in-bounds, few-places, joint-holds, joint-long, joint-counts}
 use borrow.Author.Needs.{needs}
 use Rattle.writer.proofs.plans.write_j.Statement.{statement}
 use Rattle.writer.proofs.plans.write_j.Tie as tie
 
-slice-aggregate-joint : tie.Need-slice-aggregate-joint
-slice-aggregate-joint c = search needs
-
-slice-aggregate-joint-2 : tie.Need-slice-aggregate-joint-2
-slice-aggregate-joint-2 c = search needs
-
-joint-requires : tie.Need-joint-requires
-joint-requires c κs = search needs
+gateway-joint-requires : tie.Need-gateway-joint-requires
+gateway-joint-requires c κs = search needs
 
 places-requires : tie.Need-places-requires
 places-requires c κs = search needs
@@ -26,28 +20,36 @@ weight-requires c κs = search needs
 
 write-sheet-requires : tie.Need-write-sheet-requires
 write-sheet-requires c κs =
-    let w = c .before .before .before in
-    let j = w .before .before .before .before in
-    let s = j .before .before .before .before in
-    let a = s .before .before in
-    let k = a .args .k .now in
-    let l = a .args .l .now in
-    let k-sign = a .args .k-sign in
-    let l-sign = a .args .l-sign in
-    let z = and-eq-true-iff (sized card k) (sized card l) .0 (a .pre .0) in
-    let n = joint-counts k k-sign l l-sign (a .pre .0) (j .joint .ensures .0) (w .before .places .ensures) (w .weight .ensures) in
+    let j = c .before .before .before .before .before .before .before .before .before in
+    let s = j .before .before .before .before .before .before .before .before in
+    let a = s .args in
+    let k = a .k .now in
+    let l = a .l .now in
+    let z = and-eq-true-iff (sized gateway k) (sized gateway l) .0 (s .pre .0) in
+    let k-bytes : Bytes k = λ i. c .before .before .before .before .before .before .before .before .before .before .before .before .before .before .before .before .shared-slice-known .given i .fits in
+    let l-bytes : Bytes l = λ i. c .before .before .before .before .before .before .before .before .before .before .before .before .before .before .before .shared-slice-known2 .given i .fits in
+    let n = joint-counts k (a .k-sign) l (a .l-sign) (length (a .p .now)) (length (a .q .now)) (s .pre .0) (s .pre .1 .0) (j .gateway-joint .ensures .0) (c .before .before .before .before .places .ensures) (c .before .before .before .weight .ensures) in
+    let long = joint-long k (a .k-sign) l (a .l-sign) (a .p .now) (a .q .now) (s .pre .0) (s .pre .1 .0) (j .gateway-joint .ensures .1 .0) (j .gateway-joint .ensures .1 .1 .0) (few-places forJ k (a .k-sign) l (a .l-sign) k-bytes l-bytes (n .0)) in
     record {
       valid = forJ;
-      k-bounded = in-bounds k k-sign (λ i. s .before .shared-slice-known .given i .fits) (z .0);
-      l-bounded = in-bounds l l-sign (λ i. s .shared-slice-known2 .given i .fits) (z .1);
-      held = joint-holds k k-sign l l-sign _ _ (a .pre .0) refl refl (j .joint .ensures .1 .0) (j .joint .ensures .1 .1 .0);
+      k-bounded = in-bounds k (a .k-sign) k-bytes (z .0);
+      l-bounded = in-bounds l (a .l-sign) l-bytes (z .1);
+      held = joint-holds k (a .k-sign) l (a .l-sign) (a .p .now) (a .q .now) (s .pre .0) (s .pre .1 .0) (j .gateway-joint .ensures .1 .0) (j .gateway-joint .ensures .1 .1 .0);
       long = n .0;
+      p-long = long .0;
+      q-long = long .1;
       heavy = n .1;
-      room = a .pre .1;
+      room = s .pre .1 .1;
     }
 
 same-length : tie.Need-same-length
 same-length c = search needs
+
+same-length-2 : tie.Need-same-length-2
+same-length-2 c = search needs
+
+same-length-3 : tie.Need-same-length-3
+same-length-3 c = search needs
 
 returns : tie.Need-returns
 returns c = search needs
@@ -56,11 +58,11 @@ pub write-j-spec : {M : Type 1} → statement M
 write-j-spec =
     tie.close
     (tie.spec
-    slice-aggregate-joint
-    slice-aggregate-joint-2
-    joint-requires
+    gateway-joint-requires
     places-requires
     weight-requires
     write-sheet-requires
     same-length
+    same-length-2
+    same-length-3
     returns)

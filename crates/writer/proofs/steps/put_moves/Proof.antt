@@ -13,7 +13,7 @@ abbrev μ-loop : tie.MeasureT-loop
 μ-loop out₀ at plan p q top next₀ i₀ out next i = i
 
 loop-holds : tie.Need-loop-holds Inv-loop μ-loop
-loop-holds c = let a = c .before .args in move-start (a .plan) (a .p .now) (a .q .now) (a .top) (a .out .now) (a .at)
+loop-holds c = let a = c .before .before .before .args in move-start (a .plan) (a .p .now) (a .q .now) (a .top) (a .out .now) (a .at)
 
 sub-i : tie.Need-sub-i Inv-loop μ-loop
 sub-i c = omega arith
@@ -21,22 +21,22 @@ sub-i c = omega arith
 put-letter-requires : tie.Need-put-letter-requires Inv-loop μ-loop
 put-letter-requires c κs =
     let b = c .before .before in
-    let a = b .before .before in
+    let a = b .before .before .before .before in
     double-room (a .args .plan) (a .args .p .now) (a .args .q .now) (a .args .top) (a .args .out .now) (a .args .at) (b .loop .inv) (a .pre .1) (omega (arith, c .before .loop-test .taken))
 
-element-copy-out-put-steps : tie.Need-element-copy-out-put-steps Inv-loop μ-loop
-element-copy-out-put-steps c =
-    let b = c .before .before .before .before .before .before in omega (arith, b .loop .inv .0, b .before .before .pre .0, c .before .before .before .before .before .loop-test .taken)
+shared-slice-read-put-steps : tie.Need-shared-slice-read-put-steps Inv-loop μ-loop
+shared-slice-read-put-steps c =
+    let b = c .before .before .before .before .before .before .before in omega (arith, b .loop .inv .0, b .before .before .before .before .pre .0 .0, c .before .before .before .before .before .before .loop-test .taken)
 
-element-copy-out-put-steps-2 : tie.Need-element-copy-out-put-steps-2 Inv-loop μ-loop
-element-copy-out-put-steps-2 c =
-    let b = c .before .before .before .before .before .before .before in omega (arith, b .loop .inv .0, b .before .before .pre .0, c .before .before .before .before .before .before .loop-test .taken)
+shared-slice-read-put-steps-2 : tie.Need-shared-slice-read-put-steps-2 Inv-loop μ-loop
+shared-slice-read-put-steps-2 c =
+    let b = c .before .before .before .before .before .before .before .before in omega (arith, b .loop .inv .0, b .before .before .before .before .pre .0 .1, c .before .before .before .before .before .before .before .loop-test .taken)
 
 put-steps-requires : tie.Need-put-steps-requires Inv-loop μ-loop
 put-steps-requires c κs =
     let d = c .before .before .before .before .before in
     let b = d .before .before .before in
-    let a = b .before .before in
+    let a = b .before .before .before .before in
     steps-room (a .args .plan) (a .args .p .now) (a .args .q .now) (a .args .top) (a .args .out .now) (a .args .at) (b .loop .inv) (a .pre .1) (omega (arith, d .before .before .loop-test .taken)) (d .put-letter .ensures)
 
 loop-less : tie.Need-loop-less Inv-loop μ-loop
@@ -47,7 +47,7 @@ loop-again : tie.Need-loop-again Inv-loop μ-loop
 loop-again c =
     let d = c .before .before .before .before .before .before .before .before in
     let b = d .before .before .before in
-    let a = b .before .before in
+    let a = b .before .before .before .before in
     move-turn (a .args .plan) (a .args .p .now) (a .args .q .now) (a .args .top) (a .args .out .now) (a .args .at) (b .loop .inv) (a .pre .1) (omega (arith, d .before .before .loop-test .taken)) (d .put-letter .ensures) (c .before .before .put-steps .ensures)
 
 same-length : tie.Need-same-length Inv-loop μ-loop
@@ -56,7 +56,7 @@ same-length c = put-length (c .before .loop .inv .1 .put)
 returns : tie.Need-returns Inv-loop μ-loop
 returns c =
     let b = c .before in
-    let a = b .before .before in
+    let a = b .before .before .before .before in
     move-stop (a .args .plan) (a .args .p .now) (a .args .q .now) (a .args .top) (a .args .out .now) (a .args .at) (b .loop .inv) (c .loop-test .left)
 
 pub put-moves-spec : {M : Type 1} → statement M
@@ -68,8 +68,8 @@ put-moves-spec =
     loop-holds
     sub-i
     put-letter-requires
-    element-copy-out-put-steps
-    element-copy-out-put-steps-2
+    shared-slice-read-put-steps
+    shared-slice-read-put-steps-2
     put-steps-requires
     loop-less
     loop-again

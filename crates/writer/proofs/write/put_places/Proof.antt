@@ -14,7 +14,7 @@ use Rattle.writer.proofs.write.put_places.Tie as tie
 
 returns : tie.Need-returns
 returns c =
-    let a = c .before .before in
+    let a = c .before .before .before .before in
     put-same (sym (no-places (a .args .plan) (a .args .p .now) (a .args .q .now) (a .args .places) (c .if1 .taken))) (put-none (a .args .out .now) (a .args .at))
 
 sub-put-all : tie.Need-sub-put-all
@@ -22,9 +22,9 @@ sub-put-all c = search needs
 
 put-all-requires : tie.Need-put-all-requires
 put-all-requires c κs =
-    let a = c .before .before .before in
+    let a = c .before .before .before .before .before in
     let e : a .args .places ≡ suc (a .args .places - 1) = omega (arith, c .before .if1 .left) in
-    ((omega (arith, a .pre .0 .0), a .pre .0 .1 (a .args .places - 1) e), subst (Room (a .args .out .now) (a .args .at)) (ap (λ (n : ℕ). spell (stepLines (stepsDown (a .args .plan) (columnsDown (a .args .p .now) (a .args .q .now) n)))) e) (a .pre .1))
+    (((omega (arith, a .pre .0 .0 .0), omega (arith, a .pre .0 .0 .1)), a .pre .0 .1 (a .args .places - 1) e), subst (Room (a .args .out .now) (a .args .at)) (ap (λ (n : ℕ). spell (stepLines (stepsDown (a .args .plan) (columnsDown (a .args .p .now) (a .args .q .now) n)))) e) (a .pre .1))
 
 same-length : tie.Need-same-length
 same-length c = search needs
@@ -32,7 +32,7 @@ same-length c = search needs
 returns-2 : tie.Need-returns-2
 returns-2 c =
     let n = c .before .before in
-    let a = n .before .before .before .before in
+    let a = n .before .before .before .before .before .before in
     let e : a .args .places ≡ suc (a .args .places - 1) = omega (arith, n .before .before .if1 .left) in
     put-same (sym (ap (λ (n : ℕ). spell (stepLines (stepsDown (a .args .plan) (columnsDown (a .args .p .now) (a .args .q .now) n)))) e)) (n .put-all .ensures)
 

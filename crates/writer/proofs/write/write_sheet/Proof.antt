@@ -10,7 +10,7 @@ use Rattle.written.specs.Written.Accepted.{few-doublings}
 use Rattle.written.specs.Written.{written, writtenAdditions}
 use Rattle.writer.specs.declared.answer.Sheet.the-variants.{Written}
 use Rattle.writer.specs.Body.Parts.{Room}
-use Rattle.writer.proofs.SheetBytes.{partsOf, few-places, few-counted, top-full, additions-are, doublings-are, sheet-parts, fits-buffer}
+use Rattle.writer.proofs.SheetBytes.{partsOf, few-places, few-counted, top-full, additions-are, doublings-are, sheet-parts}
 use Rattle.writer.proofs.Puts.{put-append, put-same, put-front, room-first, room-second}
 use borrow.Author.Needs.{needs}
 use Rattle.writer.proofs.write.write_sheet.Statement.{statement}
@@ -19,49 +19,49 @@ use Rattle.writer.proofs.write.write_sheet.Tie as tie
 -- the parts of the sheet, and their room
 module _ (c : tie.After-less-one2) where
   bytes : List ℕ
-  bytes = let a = c .before .before .before .before .before .before .before .args in written (a .plan) (signedScalar (a .k .now) (a .k-sign)) (signedScalar (a .l .now) (a .l-sign))
+  bytes = let a = c .before .before .before .before .before .before .before .before .before .args in written (a .plan) (signedScalar (a .k .now) (a .k-sign)) (signedScalar (a .l .now) (a .l-sign))
 
   parts : List ℕ
   parts =
-      let a = c .before .before .before .before .before .before .before .args in
+      let a = c .before .before .before .before .before .before .before .before .before .args in
       partsOf (a .plan) (c .before .before .before .table-additions .result + c .before .before .less-one .result) (c .before .table-doublings .result + c .less-one2 .result)
       (signedScalar (a .k .now) (a .k-sign)) (signedScalar (a .l .now) (a .l-sign)) (a .p .now) (a .q .now) (a .places)
 
-  additions : c .before .before .before .table-additions .result + c .before .before .less-one .result ≡ writtenAdditions (c .before .before .before .before .before .before .before .args .plan) (signedScalar (c .before .before .before .before .before .before .before .args .k .now) (c .before .before .before .before .before .before .before .args .k-sign)) (signedScalar (c .before .before .before .before .before .before .before .args .l .now) (c .before .before .before .before .before .before .before .args .l-sign))
+  additions : c .before .before .before .table-additions .result + c .before .before .less-one .result ≡ writtenAdditions (c .before .before .before .before .before .before .before .before .before .args .plan) (signedScalar (c .before .before .before .before .before .before .before .before .before .args .k .now) (c .before .before .before .before .before .before .before .before .before .args .k-sign)) (signedScalar (c .before .before .before .before .before .before .before .before .before .args .l .now) (c .before .before .before .before .before .before .before .before .before .args .l-sign))
   additions =
-      let a = c .before .before .before .before .before .before .before in
+      let a = c .before .before .before .before .before .before .before .before .before in
       additions-are (a .pre) (c .before .before .before .table-additions .result) (c .before .before .less-one .result)
       (c .before .before .before .table-additions .ensures) (c .before .before .less-one .ensures)
 
   same : bytes ≡ parts
   unfolding bytes parts
   same =
-      let a = c .before .before .before .before .before .before .before in
+      let a = c .before .before .before .before .before .before .before .before .before in
       sheet-parts (a .pre) _ _ additions
       (doublings-are (a .pre) (c .before .table-doublings .result) (c .less-one2 .result) (c .before .table-doublings .ensures) (c .less-one2 .ensures))
 
-  fits : length bytes ≤ length (c .before .before .before .before .before .before .before .args .out .now)
+  fits : length bytes ≤ length (c .before .before .before .before .before .before .before .before .before .args .out .now)
   unfolding bytes
   fits =
-      let a = c .before .before .before .before .before .before .before in
-      fits-buffer (a .pre)
+      let a = c .before .before .before .before .before .before .before .before .before in
+      a .pre .room
 
-  room : Room (c .before .before .before .before .before .before .before .args .out .now) 0 parts
-  room = subst (Room (c .before .before .before .before .before .before .before .args .out .now) 0) same (record { fits = omega (arith, fits) })
+  room : Room (c .before .before .before .before .before .before .before .before .before .args .out .now) 0 parts
+  room = subst (Room (c .before .before .before .before .before .before .before .before .before .args .out .now) 0) same (record { fits = omega (arith, fits) })
 
 table-additions-requires : tie.Need-table-additions-requires
 table-additions-requires c κs = search needs
 
 cast-less-one : tie.Need-cast-less-one
 cast-less-one c =
-    let a = c .before .before .before .before in record { fits = omega (arith, few-counted (a .pre)) }
+    let a = c .before .before .before .before .before .before in record { fits = omega (arith, few-counted (a .pre)) }
 
 less-one-requires : tie.Need-less-one-requires
 less-one-requires c κs = search needs
 
 add-additions : tie.Need-add-additions
 add-additions c =
-    let a = c .before .before .before .before .before in
+    let a = c .before .before .before .before .before .before .before in
     omega (arith, few-counted (a .pre), c .before .table-additions .ensures, c .less-one .ensures)
 
 table-doublings-requires : tie.Need-table-doublings-requires
@@ -69,7 +69,7 @@ table-doublings-requires c κs = search needs
 
 cast-less-one-2 : tie.Need-cast-less-one-2
 cast-less-one-2 c =
-    let a = c .before .before .before .before .before .before in
+    let a = c .before .before .before .before .before .before .before .before in
     record { fits = omega (arith, few-places (a .pre)) }
 
 less-one-requires-2 : tie.Need-less-one-requires-2
@@ -77,7 +77,7 @@ less-one-requires-2 c κs = search needs
 
 add-doublings : tie.Need-add-doublings
 add-doublings c =
-    let a = c .before .before .before .before .before .before .before in
+    let a = c .before .before .before .before .before .before .before .before .before in
     omega (arith, few-doublings (a .args .plan), c .before .table-doublings .ensures, c .less-one2 .ensures, few-places (a .pre))
 
 put-header-requires : tie.Need-put-header-requires
@@ -88,15 +88,15 @@ put-tables-requires : tie.Need-put-tables-requires
 unfolding parts
 put-tables-requires c κs =
     let c1 = c .before .before .before in
-    (c1 .before .before .before .before .before .before .before .before .before .pre .valid, room-first _ (room-second (c1 .put-header .ensures) _ (room (c1 .before .before))))
+    (c1 .before .before .before .before .before .before .before .before .before .before .before .pre .valid, room-first _ (room-second (c1 .put-header .ensures) _ (room (c1 .before .before))))
 
 put-places-requires : tie.Need-put-places-requires
 unfolding parts
 put-places-requires c κs =
     let c2 = c .before .before .before in
     let c1 = c2 .before .before .before .before in
-    let a = c1 .before .before .before .before .before .before .before .before .before in
-    ((few-places (a .pre), top-full (a .pre)), room-first _ (room-second (c2 .put-tables .ensures) _ (room-second (c1 .put-header .ensures) _ (room (c1 .before .before)))))
+    let a = c1 .before .before .before .before .before .before .before .before .before .before .before in
+    (((a .pre .p-long, a .pre .q-long), top-full (a .pre)), room-first _ (room-second (c2 .put-tables .ensures) _ (room-second (c1 .put-header .ensures) _ (room (c1 .before .before)))))
 
 put-letter-requires : tie.Need-put-letter-requires
 unfolding parts

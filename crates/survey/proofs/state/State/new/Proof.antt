@@ -7,8 +7,8 @@ use Prim.Native.Nat.{ℕ}
 use Rattle.sheet.specs.Plan.{tables}
 use Rattle.sheet.specs.Line.{plan}
 use Rattle.sheet.specs.Questions.{tableLines, differs}
-use Rattle.survey.specs.Survey.State.{earlier, planFor, isOnPlan, claimed}
-use Rattle.survey.proofs.HeaderTurns.{claimed-most, begin-placed, begin-tables, begin-disallowed, begin-excess, begin-additions, begin-doublings, begin-claimed}
+use Rattle.survey.specs.Survey.State.{earlier, isOnPlan, claimed}
+use Rattle.survey.proofs.HeaderTurns.{begin-placed, begin-tables, begin-disallowed, begin-excess, begin-additions, begin-doublings, begin-claimed}
 use borrow.Author.Needs.{needs}
 use Rattle.survey.proofs.state.State.new.Statement.{statement}
 use Rattle.survey.proofs.state.State.new.Tie as tie
@@ -27,16 +27,16 @@ returns c =
     λ h e.
     record {
       line = refl;
-      counted = record { few = omega arith; tables = omega arith; additions = omega arith; doublings = omega arith; places = omega (arith, c .claimed .ensures, claimed-most (planFor (c .before .before .before .args .header)) (c .before .before .before .args .header .doublings)) };
+      counted = record { few = omega arith; tables = omega arith; additions = omega arith; doublings = omega arith };
       misplaced = λ ls. begin-placed h ls;
       offPlan = λ ls.
           ap (λ (o : Option ℕ). earlier o (differs 2 (tables (plan h)) (tableLines ls))) (c .before .or .ensures)
           ∙ begin-tables h ls (c .before .before .is-on-plan .result) (c .before .before .is-on-plan .ensures ∙ ap isOnPlan e);
       disallowed = λ ls. begin-disallowed h ls (plan h);
-      excess = λ ls. begin-excess h ls;
+      excess = λ ls. begin-excess h ls _;
       additions = λ ls. begin-additions h ls;
       doublings = λ ls. begin-doublings h ls;
-      places = c .claimed .ensures ∙ ap claimed e ∙ begin-claimed h [];
+      places = c .claimed .ensures ∙ ap (claimed (c .before .before .before .args .limits)) e ∙ begin-claimed h [] (c .before .before .before .args .limits);
     }
 
 pub new-spec : {M : Type 1} → statement M
