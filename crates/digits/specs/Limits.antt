@@ -22,5 +22,6 @@ pub record Wider (narrow wide : Limits) : Type 0 where
   pub doublings : narrow .doublings ≤ wide .doublings
   pub sheet : narrow .sheet ≤ wide .sheet
 
+-- the gateway allows all that the card allows
 pub gateway-wider : Wider card gateway
 gateway-wider = record { bytes = omega arith; figures = omega arith; doublings = omega arith; sheet = omega arith }

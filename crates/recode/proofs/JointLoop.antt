@@ -52,11 +52,11 @@ module _ (s o : Low) (d : ℤ) (of-lowest : d ≡ digit (pos (s .low % 64)) (pos
         ∙ ap (λ (x : ℤ). half (pos (remaining bytes s) -ℤ x)) whole-digit
 
 -- what holds throughout the loop
-pub record Given (k l : List ℕ) (k-used l-used : ℕ) (k-out₀ l-out₀ : List ℕ) : Type 0 where
+pub record Given (k l k-out₀ l-out₀ : List ℕ) : Type 0 where
   pub k-bytes : Bytes k
   pub l-bytes : Bytes l
-  pub k-in-use : Used k k-used
-  pub l-in-use : Used l l-used
+  pub k-in-use : Used k (length k)
+  pub l-in-use : Used l (length l)
   pub cleared : (r : Two) → of k-out₀ l-out₀ r ≡ replicate (length k-out₀) 0
   pub equal : length l-out₀ ≡ length k-out₀
   pub fits : length (joint (pos (little k)) (pos (little l))) ≤ length k-out₀
@@ -78,7 +78,7 @@ pub record State (k l k-out₀ k-out l-out : List ℕ) (s t : Low) (place weight
   pub l-long : length l-out ≡ length k-out₀
   pub turn : Turn (little k) (little l) (length k-out₀) (remaining k s) (remaining l t) (of k-out l-out) place weight
 
-module _ {k l : List ℕ} {k-used l-used : ℕ} {k-out₀ l-out₀ : List ℕ} (g : Given k l k-used l-used k-out₀ l-out₀) where
+module _ {k l k-out₀ l-out₀ : List ℕ} (g : Given k l k-out₀ l-out₀) where
   moved : {k-out l-out : List ℕ} {place weight a b a′ b′ : ℕ} → a ≡ a′ → b ≡ b′ → Turn (little k) (little l) (length k-out₀) a b (of k-out l-out) place weight
       → Turn (little k) (little l) (length k-out₀) a′ b′ (of k-out l-out) place weight
   moved e f t = rw (e, f) at t
@@ -96,10 +96,10 @@ module _ {k l : List ℕ} {k-used l-used : ℕ} {k-out₀ l-out₀ : List ℕ} (
             (start (little k) (little l) (length k-out₀) (g .fits) (of k-out₀ l-out₀) (g .cleared));
       }
 
-  some : (s t : Low) → Going k-used l-used s t → 0 < remaining k s + remaining l t
+  some : (s t : Low) → Going (length k) (length l) s t → 0 < remaining k s + remaining l t
   some s t going =
-      ⊎-elim (λ h. omega (arith, remaining-some k s k-used (g .k-bytes) (g .k-in-use) h))
-      (λ h. omega (arith, remaining-some l t l-used (g .l-bytes) (g .l-in-use) h)) going
+      ⊎-elim (λ h. omega (arith, remaining-some k s (length k) (g .k-bytes) (g .k-in-use) h))
+      (λ h. omega (arith, remaining-some l t (length l) (g .l-bytes) (g .l-in-use) h)) going
 
   module _ {k-out l-out : List ℕ} {place weight : ℕ} where
     -- the low bits are filled up
@@ -108,18 +108,18 @@ module _ {k l : List ℕ} {k-used l-used : ℕ} {k-out₀ l-out₀ : List ℕ} (
     refill s s′ t t′ e h f h′ b st =
         record { k-held = h; l-held = h′; level = b; k-long = st .k-long; l-long = st .l-long; turn = moved (sym e) (sym f) (st .turn) }
 
-    pub finish : (s t : Low) → ((s .low ≡ 0) × (k-used ≤ s .at)) × ((t .low ≡ 0) × (l-used ≤ t .at)) → State k l k-out₀ k-out l-out s t place weight
+    pub finish : (s t : Low) → ((s .low ≡ 0) × (length k ≤ s .at)) × ((t .low ≡ 0) × (length l ≤ t .at)) → State k l k-out₀ k-out l-out s t place weight
         → (Written place weight ≡ wroteColumns (joint (pos (little k)) (pos (little l)))) × ((r : Two) → of k-out l-out r ≡ filled (Column.row two r (joint (pos (little k)) (pos (little l)))) (of k-out₀ l-out₀ r))
     finish s t e st =
         stop (little k) (little l) (length k-out₀) (g .fits) (of k-out₀ l-out₀) sizes
-        (moved (remaining-zero k s k-used (g .k-in-use) (e .0)) (remaining-zero l t l-used (g .l-in-use) (e .1)) (st .turn))
+        (moved (remaining-zero k s (length k) (g .k-in-use) (e .0)) (remaining-zero l t (length l) (g .l-in-use) (e .1)) (st .turn))
       where
         sizes : (r : Two) → length (of k-out₀ l-out₀ r) ≡ length k-out₀
         sizes P = refl
         sizes Q = g .equal
 
     -- z zeros of both are skipped
-    pub skipped : (s t s′ t′ : Low) (z : ℕ) → Without s s′ z → Without t t′ z → Going k-used l-used s t
+    pub skipped : (s t s′ t′ : Low) (z : ℕ) → Without s s′ z → Without t t′ z → Going (length k) (length l) s t
         → State k l k-out₀ k-out l-out s t place weight → State k l k-out₀ k-out l-out s′ t′ (place + z) weight
     skipped s t s′ t′ z v w going st =
         record {
@@ -129,11 +129,11 @@ module _ {k l : List ℕ} {k-used l-used : ℕ} {k-out₀ l-out₀ : List ℕ} (
           k-long = st .k-long;
           l-long = st .l-long;
           turn =
-              skip (little k) (little l) (length k-out₀) (g .fits) z (remaining k s′) (remaining l t′) (some s′ t′ (going-on k-used l-used v w going))
+              skip (little k) (little l) (length k-out₀) (g .fits) z (remaining k s′) (remaining l t′) (some s′ t′ (going-on (length k) (length l) v w going))
               (moved (remaining-shifted v k) (remaining-shifted w l) (st .turn));
         }
 
-    module _ (s t : Low) (going : Going k-used l-used s t) (st : State k l k-out₀ k-out l-out s t place weight) where
+    module _ (s t : Low) (going : Going (length k) (length l) s t) (st : State k l k-out₀ k-out l-out s t place weight) where
       pub inside : place < length k-out₀
       inside = room (little k) (little l) (length k-out₀) (g .fits) (some s t going) (st .turn)
 

@@ -26,6 +26,13 @@ byte-step bytes at next e = rw e (go bytes at)
     go (b ∷ bytes) zero = refl
     go (b ∷ bytes) (suc at) = go bytes at
 
+-- four bytes as one number
+pub four-bytes : (bytes : List ℕ) (at w : ℕ) → w ≡ getD bytes at 0 + 256 * getD bytes (at + 1) 0 + 65536 * (getD bytes (at + 2) 0 + 256 * getD bytes (at + 3) 0)
+    → w + 2 ^ 32 * little (drop (at + 4) bytes) ≡ little (drop at bytes)
+four-bytes bytes at w e =
+    let step = byte-step bytes in
+    omega (arith, e, step at (at + 1) (omega arith), step (at + 1) (at + 2) (omega arith), step (at + 2) (at + 3) (omega arith), step (at + 3) (at + 4) (omega arith))
+
 -- a word above at most 15 low bits
 pub shifted-word : (w k : ℕ) → w < 2 ^ 32 → k ≤ 15 → (w * 2 ^ k) % 2 ^ 64 ≡ w * 2 ^ k
 shifted-word w k h l = shl-exact {a = w} 32 k 64 h (omega arith)

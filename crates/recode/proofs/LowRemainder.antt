@@ -6,9 +6,9 @@ use native.Mathlib.Nat.{mul-assoc, mul-le-mul-left, pow-suc, add-mul-mod-self-le
 use native.Mathlib.Numerals.{add-one}
 use native.Mathlib.Omega.{arith}
 use lib.IntN.{ℤ, pos, negsuc, _-ℤ_}
-use lib.ListN.{drop}
+use lib.ListN.{length, take, drop, take-append-drop}
 use lib.Pow.{pow-add, pow-pos, pow-mono}
-use Rattle.digits.specs.Scalar.Value.{bytes-power}
+use Rattle.digits.specs.Scalar.Value.{bytes-power, little-append}
 use Rattle.digits.specs.Scalar.{Bytes}
 use Rattle.digits.specs.Integer.{up, down, half}
 use Rattle.digits.specs.Integer.Parts.{difference, one-side}
@@ -71,6 +71,15 @@ past : (n at : ℕ) → 8 * at < bitLength n → 256 ^ at ≤ n
 past n at h =
     let short : ¬ (n < 256 ^ at) = λ l. omega (arith, length-least n (8 * at) (rw bytes-power at l)) in
     omega arith
+
+-- and they alone have the whole number
+pub used-whole : (bytes : List ℕ) (used : ℕ) → Used bytes used → little (take used bytes) ≡ little bytes
+used-whole bytes used u =
+    let above : little (drop used bytes) ≡ 0 = none-above bytes used (below (little bytes) used (omega arith)) in
+    let parts : little bytes ≡ little (take used bytes) + 256 ^ length (take used bytes) * little (drop used bytes) =
+    ap little (sym (take-append-drop used bytes)) ∙ little-append (take used bytes) (drop used bytes)
+    in
+    sym (parts ∙ rw above (omega arith))
 
 pub remaining-zero : (bytes : List ℕ) (s : Low) (used : ℕ) → Used bytes used → (s .low ≡ 0) × (used ≤ s .at) → remaining bytes s ≡ 0
 unfolding remaining

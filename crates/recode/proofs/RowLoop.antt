@@ -23,11 +23,11 @@ use Rattle.recode.proofs.LowRemainder.{Used, Without, remaining-new, re
 use Rattle.recode.proofs.RowTurns.{Turn, light, start, skip, store, stop, room, bound}
 
 -- what holds throughout the loop
-pub record Given (bytes : List ℕ) (used m : ℕ) (out₀ : List ℕ) : Type 0 where
+pub record Given (bytes : List ℕ) (m : ℕ) (out₀ : List ℕ) : Type 0 where
   pub one : 1 ≤ m
   pub most : m ≤ 31
   pub are-bytes : Bytes bytes
-  pub in-use : Used bytes used
+  pub in-use : Used bytes (length bytes)
   pub cleared : out₀ ≡ replicate (length out₀) 0
   pub fits : length (row m (pos (little bytes))) ≤ length out₀
 
@@ -43,7 +43,7 @@ abbrev pub State : List ℕ → ℕ → List ℕ → List ℕ → Low → ℕ �
 State bytes m out₀ out low place weight =
     Held low × ((length out ≡ length out₀) × Turn m (little bytes) (length out₀) (remaining bytes low) out place weight)
 
-module _ {bytes : List ℕ} {used m : ℕ} {out₀ : List ℕ} (g : Given bytes used m out₀) where
+module _ {bytes : List ℕ} {m : ℕ} {out₀ : List ℕ} (g : Given bytes m out₀) where
   pub begin : (s : Low) → (s .at ≡ 0) × ((s .bits ≡ 0) × (s .low ≡ 0)) → State bytes m out₀ out₀ s 0 0
   begin s e = (
     record { few = omega arith; low = omega arith },
@@ -69,15 +69,15 @@ module _ {bytes : List ℕ} {used m : ℕ} {out₀ : List ℕ} (g : Given bytes 
     pub few : (s : Low) → State bytes m out₀ out s place weight → weight ≤ place
     few s st = light m (little bytes) (length out₀) (g .one) (g .fits) (st .1 .1)
 
-    pub finish : (s : Low) → (s .low ≡ 0) × (used ≤ s .at) → State bytes m out₀ out s place weight
+    pub finish : (s : Low) → (s .low ≡ 0) × (length bytes ≤ s .at) → State bytes m out₀ out s place weight
         → (Written place weight ≡ wroteRow (row m (pos (little bytes)))) × (out ≡ filled (row m (pos (little bytes))) out₀)
     finish s e st =
         stop m (little bytes) (length out₀) (g .one) (g .fits) out₀ refl
-        (subst (λ (r : ℕ). Turn m (little bytes) (length out₀) r out place weight) (remaining-zero bytes s used (g .in-use) e) (st .1 .1))
+        (subst (λ (r : ℕ). Turn m (little bytes) (length out₀) r out place weight) (remaining-zero bytes s (length bytes) (g .in-use) e) (st .1 .1))
 
-    module _ (s : Low) (going : s .low ≡ 0 → s .at < used) (st : State bytes m out₀ out s place weight) where
+    module _ (s : Low) (going : s .low ≡ 0 → s .at < length bytes) (st : State bytes m out₀ out s place weight) where
       some : 0 < remaining bytes s
-      some = remaining-some bytes s used (g .are-bytes) (g .in-use) going
+      some = remaining-some bytes s (length bytes) (g .are-bytes) (g .in-use) going
 
       -- z zeros are skipped
       pub skipped : (t : Low) (z : ℕ) → Without s t z → State bytes m out₀ out t (place + z) weight

@@ -73,17 +73,10 @@ fn both_zeros(k: Low, l: Low) -> u32
     crate::low::zeros_of(k.low | l.low, k.bits)
 }
 
-// Writes the joint columns of two numbers' bytes into places that hold 0. `k_used` and `l_used` count the bytes up to the top
-// one that is not 0. Zero columns are skipped, so every column that is stored counts.
-fn write_columns(
-    k: &[u8],
-    l: &[u8],
-    k_used: usize,
-    l_used: usize,
-    k_out: &mut [u8],
-    l_out: &mut [u8],
-) -> Recoded
-    requires { ⌜ («k_used» ≡ (bitLength (little (now k)) + 7) / 8) × («l_used» ≡ (bitLength (little (now l)) + 7) / 8) ⌝ }
+// Writes the joint columns of two numbers' bytes, of which the top ones are not 0, into places that hold 0. Zero columns are skipped, so
+// every column that is stored counts.
+fn write_columns(k: &[u8], l: &[u8], k_out: &mut [u8], l_out: &mut [u8]) -> Recoded
+    requires { ⌜ (length (now k) ≡ (bitLength (little (now k)) + 7) / 8) × (length (now l) ≡ (bitLength (little (now l)) + 7) / 8) ⌝ }
     requires { ⌜ (now «k_out» ≡ replicate (length (now «k_out»)) 0) × (now «l_out» ≡ replicate (length (now «k_out»)) 0) ⌝ }
     requires { ⌜ length (Joint.joint (pos (little (now k))) (pos (little (now l)))) ≤ length (now «k_out») ⌝ }
     ensures { λ r. ⌜ r ≡ wroteColumns (Joint.joint (pos (little (now (k .entry)))) (pos (little (now (l .entry))))) ⌝ }
@@ -98,7 +91,7 @@ fn write_columns(
     loop {
         let k_full = k_low.filled(k);
         let l_full = l_low.filled(l);
-        if both_ended(k_full, l_full, k_used, l_used) {
+        if both_ended(k_full, l_full, k.len(), l.len()) {
             return Recoded::Written(place, weight);
         }
         let zeros = both_zeros(k_full, l_full);
@@ -158,10 +151,8 @@ fn write_joint(
     let k_used = (k_bits + 7) / 8;
     let l_used = (l_bits + 7) / 8;
     write_columns(
-        k_remainder,
-        l_remainder,
-        k_used,
-        l_used,
+        &k_remainder[..k_used],
+        &l_remainder[..l_used],
         &mut k_out[..places],
         &mut l_out[..places],
     )

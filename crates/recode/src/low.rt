@@ -1,16 +1,22 @@
 ghost use mathlib.Core.Path.{_≡_};
 ghost use Prim.Native.Nat.{ℕ, _+_, _-_, _*_, _/_, _%_, _^_, _<_, _≤_};
-ghost use lib.ListN.{length, getD, drop};
+ghost use lib.ListN.{length, getD};
 ghost use lib.IntN.{pos, natAbs, _-ℤ_};
 ghost use Rattle.digits.specs.Integer.{half};
-ghost use Rattle.digits.specs.Scalar.{little};
-ghost use Rattle.recode.specs.Body.Remainder.{remaining, Held};
+ghost use Rattle.recode.specs.Body.Remainder.{remaining, Held, Word};
 
 // The low bits of a running remainder, which is low + 2^bits × the bytes from `at` on.
 pub struct Low {
     pub at: usize,
     pub bits: u32,
     pub low: u64,
+}
+
+// A byte as a wider number.
+fn wide(byte: u8) -> u64
+    ensures { λ r. ⌜ (r ≡ byte) × (r < 256) ⌝ }
+{
+    byte as u64
 }
 
 // The byte at a place, and 0 past the end.
@@ -24,14 +30,25 @@ fn byte_at(bytes: &[u8], at: usize) -> u64
     }
 }
 
-// Four bytes as one number, the least significant first, and zeros past the end.
+// Four bytes as one number, the least significant first.
+fn four_at(bytes: &[u8], at: usize) -> u64
+    requires { ⌜ at + 3 < length (now bytes) ⌝ }
+    ensures { λ r. ⌜ Word (now (bytes .entry)) at r ⌝ }
+{
+    let first = wide(bytes[at]) + 256 * wide(bytes[at + 1]);
+    let second = wide(bytes[at + 2]) + 256 * wide(bytes[at + 3]);
+    first + 65536 * second
+}
+
+// The same, with zeros past the end.
 fn word_at(bytes: &[u8], at: usize) -> u64
     requires { ⌜ at < length (now bytes) ⌝ }
-    ensures { λ r. ⌜ (r < 2 ^ 32) × (r + 2 ^ 32 * little (drop (at + 4) (now (bytes .entry))) ≡ little (drop at (now (bytes .entry)))) ⌝ }
+    ensures { λ r. ⌜ Word (now (bytes .entry)) at r ⌝ }
 {
-    let first = byte_at(bytes, at) + 256 * byte_at(bytes, at + 1);
-    let second = byte_at(bytes, at + 2) + 256 * byte_at(bytes, at + 3);
-    first + 65536 * second
+    if at + 3 < bytes.len() {
+        return four_at(bytes, at);
+    }
+    byte_at(bytes, at) + 256 * byte_at(bytes, at + 1) + 65536 * byte_at(bytes, at + 2)
 }
 
 // How many zeros stand below the lowest one of a number that has `bits` bits and perhaps a carry: all of them where it is 0.

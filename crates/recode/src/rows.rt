@@ -25,11 +25,11 @@ pub fn ended(low: Low, used: usize) -> bool
     false
 }
 
-// Writes the row of the bytes' number into places that hold 0. `used` counts the bytes up to the top one that is not 0, and
-// half is 2^(W−1) of the window m. Zeros are skipped, so every digit that is stored counts.
-fn write_digits(bytes: &[u8], used: usize, m: u16, half: u16, out: &mut [u8]) -> Recoded
+// Writes the row of the bytes' number into places that hold 0. The top byte is not 0, and half is 2^(W−1) of the window m. Zeros are
+// skipped, so every digit that is stored counts.
+fn write_digits(bytes: &[u8], m: u16, half: u16, out: &mut [u8]) -> Recoded
     requires { ⌜ (1 ≤ m) × ((m ≤ widest) × (half ≡ 2 ^ (width m - 1))) ⌝ }
-    requires { ⌜ used ≡ (bitLength (little (now bytes)) + 7) / 8 ⌝ }
+    requires { ⌜ length (now bytes) ≡ (bitLength (little (now bytes)) + 7) / 8 ⌝ }
     requires { ⌜ (now out ≡ replicate (length (now out)) 0) × (length (row m (pos (little (now bytes)))) ≤ length (now out)) ⌝ }
     ensures { λ r. ⌜ r ≡ wroteRow (row m (pos (little (now (bytes .entry))))) ⌝ }
     ensures { λ _. ⌜ now (out .exit) ≡ filled (row m (pos (little (now (bytes .entry))))) (now (out .entry)) ⌝ }
@@ -39,7 +39,7 @@ fn write_digits(bytes: &[u8], used: usize, m: u16, half: u16, out: &mut [u8]) ->
     let mut weight = 0;
     loop {
         let full = low.filled(bytes);
-        if ended(full, used) {
+        if ended(full, bytes.len()) {
             return Recoded::Written(place, weight);
         }
         // Where no bit is set, all are skipped: on a path of its own, so that `zeros` asks for nothing.
@@ -87,7 +87,7 @@ fn write_row(scalar: &[u8], m: u16, out: &mut [u8], remainder: &mut [u8]) -> Rec
     crate::buffer::copy_into(scalar, remainder);
     digits::clear(out);
     let half = crate::digit::half_of(m);
-    write_digits(remainder, used, m, half, &mut out[..places])
+    write_digits(&remainder[..used], m, half, &mut out[..places])
 }
 
 // Writes the row of a scalar with a sign: that of its bytes, and then its sign.

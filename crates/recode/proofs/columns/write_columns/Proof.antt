@@ -18,18 +18,18 @@ use Rattle.recode.proofs.columns.write_columns.Statement.{statement}
 use Rattle.recode.proofs.columns.write_columns.Tie as tie
 
 abbrev Inv-loop : tie.InvT-loop
-Inv-loop k l k-used l-used k-out₀ l-out₀ k-low₀ l-low₀ place₀ weight₀ table k-out l-out k-low l-low place weight =
+Inv-loop k l k-out₀ l-out₀ k-low₀ l-low₀ place₀ weight₀ table k-out l-out k-low l-low place weight =
     State k l k-out₀ k-out l-out k-low l-low place weight
 
 abbrev μ-loop : tie.MeasureT-loop
-μ-loop k l k-used l-used k-out₀ l-out₀ k-low₀ l-low₀ place₀ weight₀ table k-out l-out k-low l-low place weight = length k-out - place
+μ-loop k l k-out₀ l-out₀ k-low₀ l-low₀ place₀ weight₀ table k-out l-out k-low l-low place weight = length k-out - place
 
 -- the arguments, and what holds throughout the loop
 abbrev asked : tie.After-digit-table Inv-loop μ-loop → tie.Start Inv-loop μ-loop
 asked c = c .before .before .before .before .before .before .before
 
 module _ (c : tie.After-digit-table Inv-loop μ-loop) where
-  given : Given (asked c .args .k .now) (asked c .args .l .now) (asked c .args .k-used) (asked c .args .l-used) (asked c .args .k-out .now) (asked c .args .l-out .now)
+  given : Given (asked c .args .k .now) (asked c .args .l .now) (asked c .args .k-out .now) (asked c .args .l-out .now)
   given =
       let p = asked c .pre in
       record {
@@ -117,11 +117,11 @@ module _ (c : tie.After-shifted2 Inv-loop μ-loop) where
   l-without : Without (filled-up c .filled2 .result) (c .shifted2 .result) (c .before .before .both-zeros .result)
   l-without = record { zeros = c .before .before .both-zeros .ensures .0 .1 .1; shifted = c .shifted2 .ensures }
 
-  going : Going (asked (turned c .before) .args .k-used) (asked (turned c .before) .args .l-used) (filled-up c .before .filled .result) (filled-up c .filled2 .result)
+  going : Going (length (asked (turned c .before) .args .k .now)) (length (asked (turned c .before) .args .l .now)) (filled-up c .before .filled .result) (filled-up c .filled2 .result)
   going = c .before .before .before .before .both-ended .ensures .1 (c .before .before .before .if1 .left)
 
-  some : Going (asked (turned c .before) .args .k-used) (asked (turned c .before) .args .l-used) (c .before .shifted .result) (c .shifted2 .result)
-  some = going-on (asked (turned c .before) .args .k-used) (asked (turned c .before) .args .l-used) k-without l-without going
+  some : Going (length (asked (turned c .before) .args .k .now)) (length (asked (turned c .before) .args .l .now)) (c .before .shifted .result) (c .shifted2 .result)
+  some = going-on (length (asked (turned c .before) .args .k .now)) (length (asked (turned c .before) .args .l .now)) k-without l-without going
 
   odd : Standing (turned c) (c .before .shifted .result) (c .shifted2 .result) (turned c .loop .place + c .before .before .both-zeros .result)
   odd =

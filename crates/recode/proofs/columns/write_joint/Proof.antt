@@ -1,4 +1,4 @@
--- `write_joint` meets its contract: the bytes copied have the scalars' values, and the places up to the longer bit length
+-- `write_joint` meets its contract: the bytes copied and in use have the scalars' values, and the places up to the longer bit length
 -- plus one hold all columns.
 use mathlib.Core.Path.{_≡_, sym, ap, ap₂, _∙_}
 use mathlib.Core.List.{List}
@@ -7,6 +7,7 @@ use native.Mathlib.Omega.{arith}
 use borrow.Author.Needs.{needs}
 use lib.IntN.{pos}
 use lib.ListN.{length, take, replicate}
+use lib.Seq.{length-take-le}
 use Rattle.digits.specs.Scalar.Value.{length-bytes}
 use Rattle.digits.specs.Column as Columns
 use Rattle.digits.specs.Column.Length.{row-length}
@@ -15,7 +16,7 @@ use Rattle.digits.specs.Two.{Column, P, Q, two}
 use Rattle.forms.specs.Joint.{joint}
 use Rattle.forms.specs.Joint.Length.{joint-length}
 use Rattle.recode.specs.Call.{wroteColumns, filled}
-use Rattle.recode.proofs.Prefix.{first-length, first-cleared, first-filled, first-places, little-copied}
+use Rattle.recode.proofs.Prefix.{first-length, first-cleared, first-filled, first-places, first-bytes}
 use Rattle.recode.proofs.columns.write_joint.Statement.{statement}
 use Rattle.recode.proofs.columns.write_joint.Tie as tie
 
@@ -93,8 +94,21 @@ module _ (c : tie.After-clear2) where
   l-cleared : l-clear ≡ replicate (length l-out) 0
   l-cleared = c .clear2 .ensures
 
+  -- the bytes that are lent on
+  abbrev k-bytes : List ℕ
+  k-bytes = take ((sized .before .before .bits-of .result + 7) / 8) (k-copied .copy-into .last .1 .0)
+
+  abbrev l-bytes : List ℕ
+  l-bytes = take ((sized .before .bits-of2 .result + 7) / 8) (l-copied .copy-into2 .last .1 .0)
+
+  k-within : (sized .before .before .bits-of .result + 7) / 8 ≤ length (k-copied .copy-into .last .1 .0)
+  k-within = omega (arith, k-few sized, asked sized .pre .1 .1 .0, k-copied .copy-into .kept)
+
+  l-within : (sized .before .bits-of2 .result + 7) / 8 ≤ length (l-copied .copy-into2 .last .1 .0)
+  l-within = omega (arith, l-few sized, asked sized .pre .1 .1 .1, l-copied .copy-into2 .kept)
+
   abbrev columns : List Column
-  columns = joint (pos (little (k-copied .copy-into .last .1 .0))) (pos (little (l-copied .copy-into2 .last .1 .0)))
+  columns = joint (pos (little k-bytes)) (pos (little l-bytes))
 
   k-enough : places ≤ length k-out
   k-enough = omega (arith, few sized, asked sized .pre .1 .0)
@@ -102,15 +116,15 @@ module _ (c : tie.After-clear2) where
   l-enough : places ≤ length l-out
   l-enough = omega (arith, few sized, asked sized .pre .1 .0)
 
-  k-number : little (k-copied .copy-into .last .1 .0) ≡ scalar (asked sized .args .k .now)
+  k-number : little k-bytes ≡ scalar (asked sized .args .k .now)
   k-number =
       let a = asked sized .args in
-      ap little (k-copied .copy-into .ensures) ∙ little-copied (a .k .now) (length (a .k-remainder .now) - length (a .k .now))
+      first-bytes (a .k .now) (length (a .k-remainder .now) - length (a .k .now)) (k-copied .copy-into .last .1 .0) _ (k-copied .copy-into .ensures) (sized .before .before .bits-of .ensures)
 
-  l-number : little (l-copied .copy-into2 .last .1 .0) ≡ scalar (asked sized .args .l .now)
+  l-number : little l-bytes ≡ scalar (asked sized .args .l .now)
   l-number =
       let a = asked sized .args in
-      ap little (l-copied .copy-into2 .ensures) ∙ little-copied (a .l .now) (length (a .l-remainder .now) - length (a .l .now))
+      first-bytes (a .l .now) (length (a .l-remainder .now) - length (a .l .now)) (l-copied .copy-into2 .last .1 .0) _ (l-copied .copy-into2 .ensures) (sized .before .bits-of2 .ensures)
 
   short : length columns ≤ places
   short =
@@ -130,28 +144,40 @@ add-k-used c = let s = sized (c .before .before) in omega (arith, k-few s, asked
 add-l-used : tie.Need-add-l-used
 add-l-used c = let s = sized (c .before .before) in omega (arith, l-few s, asked s .pre .0)
 
+slice-reshare-prefix-write-columns : tie.Need-slice-reshare-prefix-write-columns
+slice-reshare-prefix-write-columns c = k-within (c .before .before)
+
+slice-aggregate-write-columns : tie.Need-slice-aggregate-write-columns
+slice-aggregate-write-columns c = sym (length-take-le _ _ (k-within (c .before .before .before)))
+
+slice-reshare-prefix-write-columns-2 : tie.Need-slice-reshare-prefix-write-columns-2
+slice-reshare-prefix-write-columns-2 c = l-within (c .before .before .before)
+
+slice-aggregate-write-columns-2 : tie.Need-slice-aggregate-write-columns-2
+slice-aggregate-write-columns-2 c = sym (length-take-le _ _ (l-within (c .before .before .before .before)))
+
 slice-relend-prefix-write-columns : tie.Need-slice-relend-prefix-write-columns
 slice-relend-prefix-write-columns c =
     let k = c .before .before .before .before in
     omega (arith, k-enough k, k .before .before .before .before .clear .kept)
 
-slice-aggregate-write-columns : tie.Need-slice-aggregate-write-columns
-slice-aggregate-write-columns c = sym (k-first (c .before .before .before .before .before))
+slice-aggregate-write-columns-3 : tie.Need-slice-aggregate-write-columns-3
+slice-aggregate-write-columns-3 c = sym (k-first (c .before .before .before .before .before))
 
 slice-relend-prefix-write-columns-2 : tie.Need-slice-relend-prefix-write-columns-2
 slice-relend-prefix-write-columns-2 c =
     let k = c .before .before .before .before .before in
     omega (arith, l-enough k, k .clear2 .kept)
 
-slice-aggregate-write-columns-2 : tie.Need-slice-aggregate-write-columns-2
-slice-aggregate-write-columns-2 c = sym (l-first (c .before .before .before .before .before .before))
+slice-aggregate-write-columns-4 : tie.Need-slice-aggregate-write-columns-4
+slice-aggregate-write-columns-4 c = sym (l-first (c .before .before .before .before .before .before))
 
 write-columns-requires : tie.Need-write-columns-requires
 write-columns-requires c κs =
     let k = c .before .before .before .before .before .before in (
       (
-        ap (λ (b : ℕ). (b + 7) / 8) (sized k .before .before .bits-of .ensures ∙ ap bitLength (sym (k-number k))),
-        ap (λ (b : ℕ). (b + 7) / 8) (sized k .before .bits-of2 .ensures ∙ ap bitLength (sym (l-number k))),
+        length-take-le _ _ (k-within k) ∙ ap (λ (b : ℕ). (b + 7) / 8) (sized k .before .before .bits-of .ensures ∙ ap bitLength (sym (k-number k))),
+        length-take-le _ _ (l-within k) ∙ ap (λ (b : ℕ). (b + 7) / 8) (sized k .before .bits-of2 .ensures ∙ ap bitLength (sym (l-number k))),
       ),
       (
         (
@@ -202,10 +228,14 @@ write-joint-spec =
     clear-requires-2
     add-k-used
     add-l-used
-    slice-relend-prefix-write-columns
+    slice-reshare-prefix-write-columns
     slice-aggregate-write-columns
-    slice-relend-prefix-write-columns-2
+    slice-reshare-prefix-write-columns-2
     slice-aggregate-write-columns-2
+    slice-relend-prefix-write-columns
+    slice-aggregate-write-columns-3
+    slice-relend-prefix-write-columns-2
+    slice-aggregate-write-columns-4
     write-columns-requires
     same-length
     same-length-2

@@ -17,16 +17,16 @@ use Rattle.recode.proofs.rows.write_digits.Statement.{statement}
 use Rattle.recode.proofs.rows.write_digits.Tie as tie
 
 abbrev Inv-loop : tie.InvT-loop
-Inv-loop bytes used m half out₀ low₀ place₀ weight₀ out low place weight = State bytes m out₀ out low place weight
+Inv-loop bytes m half out₀ low₀ place₀ weight₀ out low place weight = State bytes m out₀ out low place weight
 
 abbrev μ-loop : tie.MeasureT-loop
-μ-loop bytes used m half out₀ low₀ place₀ weight₀ out low place weight = length out - place
+μ-loop bytes m half out₀ low₀ place₀ weight₀ out low place weight = length out - place
 
 -- the arguments, and what holds throughout the loop
 abbrev asked : tie.After-new Inv-loop μ-loop → tie.Start Inv-loop μ-loop
 asked c = c .before .before .before
 
-given : (c : tie.After-new Inv-loop μ-loop) → Given (asked c .args .bytes .now) (asked c .args .used) (asked c .args .m) (asked c .args .out .now)
+given : (c : tie.After-new Inv-loop μ-loop) → Given (asked c .args .bytes .now) (asked c .args .m) (asked c .args .out .now)
 given c =
     let p = asked c .pre in
     record {
@@ -70,7 +70,7 @@ returns c =
 
 -- something is left
 abbrev Left : tie.After-filled Inv-loop μ-loop → Low → Type 0
-Left c s = s .low ≡ 0 → s .at < asked (c .before .before) .args .used
+Left c s = s .low ≡ 0 → s .at < length (asked (c .before .before) .args .bytes .now)
 
 going : (c : tie.Else1 Inv-loop μ-loop) → Left (c .before .before) (c .before .before .filled .result)
 going c = c .before .ended .ensures .1 (c .if1 .left)
@@ -131,7 +131,7 @@ module _ (c : tie.After-shifted2 Inv-loop μ-loop) where
       (c .before .zeros .result) without
 
   going-on : Left (filled-up c) (c .shifted2 .result)
-  going-on = still without (asked (turned c .before) .args .used) (going (c .before .before .before .before))
+  going-on = still without (length (asked (turned c .before) .args .bytes .now)) (going (c .before .before .before .before))
 
   within : turned c .loop .place + c .before .zeros .result ≤ length (turned c .loop .out)
   within = reached (given (turned c .before)) (c .shifted2 .result) odd

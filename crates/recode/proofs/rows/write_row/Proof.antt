@@ -1,18 +1,19 @@
--- `write_row` meets its contract: the bytes copied have the scalar's value, and the places up to the bit length plus one
--- hold the whole row.
+-- `write_row` meets its contract: the bytes copied have the scalar's value, those in use alone have it too, and the places up to the
+-- bit length plus one hold the whole row.
 use mathlib.Core.Path.{_≡_, sym, ap, _∙_}
 use mathlib.Core.List.{List}
 use Prim.Native.Nat.{ℕ, _+_, _*_, _-_, _/_, _≤_}
 use native.Mathlib.Omega.{arith}
 use borrow.Author.Needs.{needs}
 use lib.IntN.{pos}
-use lib.ListN.{length}
+use lib.ListN.{length, take}
+use lib.Seq.{length-take-le}
 use Rattle.digits.specs.Scalar.Value.{length-bytes}
 use Rattle.digits.specs.Scalar.{little, scalar, bitLength}
 use Rattle.forms.specs.Row.{row}
 use Rattle.forms.specs.Row.Length.{row-length}
 use Rattle.recode.specs.Call.{wroteRow, filled}
-use Rattle.recode.proofs.Prefix.{first-length, first-cleared, first-filled, little-copied}
+use Rattle.recode.proofs.Prefix.{first-length, first-cleared, first-filled, first-bytes}
 use Rattle.recode.proofs.rows.write_row.Statement.{statement}
 use Rattle.recode.proofs.rows.write_row.Tie as tie
 
@@ -59,23 +60,38 @@ module _ (c : tie.After-clear) where
   enough : bits + 1 ≤ length out
   enough = omega (arith, few sized, asked sized .pre)
 
-  number : little bytes ≡ scalar (asked sized .args .scalar .now)
+  -- the bytes that are lent on, and their number
+  abbrev used : ℕ
+  used = (bits + 7) / 8
+
+  within : used ≤ length bytes
+  within = omega (arith, few sized, asked sized .pre, c .before .before .before .before .copy-into .kept)
+
+  number : little (take used bytes) ≡ scalar (asked sized .args .scalar .now)
   number =
       let a = asked sized .args in
-      ap little (c .before .before .before .before .copy-into .ensures) ∙ little-copied (a .scalar .now) (length (a .remainder .now) - length (a .scalar .now))
+      first-bytes (a .scalar .now) (length (a .remainder .now) - length (a .scalar .now)) bytes bits (c .before .before .before .before .copy-into .ensures) (sized .bits-of .ensures)
 
-  short : length (row (asked sized .args .m) (pos (little bytes))) ≤ bits + 1
+  short : length (row (asked sized .args .m) (pos (little (take used bytes)))) ≤ bits + 1
   short =
       let a = asked sized .args in
       rw number (omega (arith, row-length (a .m) (pos (scalar (a .scalar .now))) (asked sized .pre .0 .1 .0), sized .bits-of .ensures))
+
+slice-reshare-prefix-write-digits : tie.Need-slice-reshare-prefix-write-digits
+slice-reshare-prefix-write-digits c = within (c .before .before .before)
+
+slice-aggregate-write-digits : tie.Need-slice-aggregate-write-digits
+slice-aggregate-write-digits c =
+    let k = c .before .before .before .before in
+    sym (length-take-le (used k) (bytes k) (within k))
 
 slice-relend-prefix-write-digits : tie.Need-slice-relend-prefix-write-digits
 slice-relend-prefix-write-digits c =
     let k = c .before .before .before .before in
     omega (arith, enough k, k .clear .kept)
 
-slice-aggregate-write-digits : tie.Need-slice-aggregate-write-digits
-slice-aggregate-write-digits c =
+slice-aggregate-write-digits-2 : tie.Need-slice-aggregate-write-digits-2
+slice-aggregate-write-digits-2 c =
     let k = c .before .before .before .before .before in
     sym (first-length (out k) (k .clear .last .0) _ (k .clear .ensures) (enough k))
 
@@ -85,7 +101,7 @@ write-digits-requires c κs =
     let p = asked (sized k) .pre .0 in (
       (p .1 .0, (p .1 .1 .0, c .before .before .half-of .ensures)),
       (
-        ap (λ (n : ℕ). (n + 7) / 8) (sized k .bits-of .ensures ∙ ap bitLength (sym (number k))),
+        length-take-le (used k) (bytes k) (within k) ∙ ap (λ (n : ℕ). (n + 7) / 8) (sized k .bits-of .ensures ∙ ap bitLength (sym (number k))),
         (
           first-cleared (out k) (k .clear .last .0) (bits k + 1) (k .clear .ensures) (enough k),
           omega (arith, short k, first-length (out k) (k .clear .last .0) (bits k + 1) (k .clear .ensures) (enough k)),
@@ -105,7 +121,7 @@ returns c =
     let w = c .before .before .write-digits in
     let m = asked (sized k) .args .m in (
       w .ensures .0 ∙ ap (λ (n : ℕ). wroteRow (row m (pos n))) (number k),
-      first-filled (out k) (k .clear .last .0) (bits k + 1) (k .clear .ensures) (enough k) (row m (pos (little (bytes k)))) _ (short k) (w .ensures .1)
+      first-filled (out k) (k .clear .last .0) (bits k + 1) (k .clear .ensures) (enough k) (row m (pos (little (take (used k) (bytes k))))) _ (short k) (w .ensures .1)
           ∙ ap (λ (n : ℕ). filled (row m (pos n)) (out k)) (number k),
     )
 
@@ -119,8 +135,10 @@ write-row-spec =
     copy-into-requires
     clear-requires
     half-of-requires
-    slice-relend-prefix-write-digits
+    slice-reshare-prefix-write-digits
     slice-aggregate-write-digits
+    slice-relend-prefix-write-digits
+    slice-aggregate-write-digits-2
     write-digits-requires
     same-length
     same-length-2
