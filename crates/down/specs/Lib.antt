@@ -1,0 +1,3 @@
+pub mod Down
+pub mod Samples
+pub mod Promise

@@ -1,0 +1,55 @@
+-- What is promised of the row from the top down, in one place, for every window m and for numbers of either sign. The definitions are those of
+-- Down, of forms and of digits; the proofs are in the files that the answers name.
+use mathlib.Core.Path.{_≡_}
+use mathlib.Core.Logic.{_≢_}
+use mathlib.Core.List.{List, [], map}
+use Prim.Native.Nat.{ℕ, suc, _+_, _≤_}
+use native.Mathlib.Omega.{arith}
+use lib.IntN.{ℤ, pos, negℤ, natAbs}
+use lib.ListN.{length, getD}
+use Rattle.digits.specs.Row.{value, weight, Over}
+use Rattle.digits.specs.Scalar.{bitLength}
+use Rattle.forms.specs.Promise.{row-fewest}
+use Rattle.forms.specs.Row.{row}
+use Rattle.down.specs.Down.{places, DownRule, down}
+use Rattle.down.specs.Down.Row as Row
+use Rattle.down.specs.Down.Unfold as Unfold
+
+-- the digits of the n lowest places meet the printed steps, and nothing else does
+pub places-meet : (m u n : ℕ) → 1 ≤ m → DownRule m u n (places m u n)
+places-meet = Unfold.places-meet
+
+pub places-only : (m u n : ℕ) (ds : List ℤ) → 1 ≤ m → DownRule m u n ds → ds ≡ places m u n
+places-only = Unfold.places-only
+
+-- the row's digits are the window's
+pub down-digits : (m : ℕ) (c : ℤ) → 1 ≤ m → Over m (down m c)
+down-digits = Row.down-digits
+
+-- it reads back to c
+pub down-value : (m : ℕ) (c : ℤ) → 1 ≤ m → value (down m c) ≡ c
+down-value = Row.down-value
+
+-- its top digit is not 0
+pub down-top : (m : ℕ) (c : ℤ) → 1 ≤ m → (i : ℕ) → length (down m c) ≡ suc i → getD (down m c) i (pos 0) ≢ pos 0
+down-top = Row.down-top
+
+-- it never has more places than the number's bit length plus one
+pub down-length : (m : ℕ) (c : ℤ) → 1 ≤ m → length (down m c) ≤ bitLength (natAbs c) + 1
+down-length = Row.down-length
+
+-- as many of its digits are not 0 as of 01's row
+pub down-weight : (m : ℕ) (c : ℤ) → 1 ≤ m → weight (down m c) ≡ weight (row m c)
+down-weight = Row.down-weight
+
+-- so no row over the same digits has fewer
+pub down-fewest : (m : ℕ) (c : ℤ) (ds : List ℤ) → 1 ≤ m → Over m ds → value ds ≡ c → weight (down m c) ≤ weight ds
+down-fewest m c ds h o e = omega (arith, down-weight m c h, row-fewest m c ds h o e)
+
+-- zero has the empty row
+pub down-zero : (m : ℕ) → 1 ≤ m → down m (pos 0) ≡ []
+down-zero = Row.down-zero
+
+-- the row of a negated number has each digit negated
+pub down-negates : (m : ℕ) (c : ℤ) → 1 ≤ m → down m (negℤ c) ≡ map negℤ (down m c)
+down-negates = Row.down-negates
