@@ -31,7 +31,7 @@ use Rattle.sheet.specs.Digits.{weight}
 use Rattle.sheet.specs.Plan.{point}
 use Rattle.sheet.specs.Questions.Planned.{window-of}
 use Rattle.sheet.specs.Sound.{Window}
-use Rattle.written.specs.Written.Columns.{digits-length, paired-at, paired-length, paired-weight}
+use Rattle.written.specs.Written.Columns.{digits-make, paired-at, paired-length, paired-weight}
 use Rattle.written.specs.Valid.{Valid, window-positive}
 use Rattle.written.specs.Written.{digits}
 use Rattle.digits.specs.Byte.{signed}
@@ -79,13 +79,14 @@ Counts plan k l places counted = (places ≡ length (digits plan k l)) × (count
 pub few-places : {plan : Plan} → Valid plan → (k : List ℕ) (k-sign : ℕ) (l : List ℕ) (l-sign : ℕ) → Bytes k → Bytes l → {n : ℕ} → n ≡ length (digits plan (signedScalar k k-sign) (signedScalar l l-sign))
     → n ≤ 8 * max (length k) (length l) + 1
 few-places {plan} v k k-sign l l-sign k-bytes l-bytes e =
-    let b : ℕ = 8 * max (length k) (length l) in
     omega (
       arith,
       e,
-      digits-length (signedScalar k k-sign) (signedScalar l l-sign) v b
-          (omega (arith, ap bitLength (scalar-size k k-sign), length-bytes k k-bytes))
-          (omega (arith, ap bitLength (scalar-size l l-sign), length-bytes l l-bytes)),
+      digits-make (signedScalar k k-sign) (signedScalar l l-sign) v .few,
+      ap bitLength (scalar-size k k-sign),
+      length-bytes k k-bytes,
+      ap bitLength (scalar-size l l-sign),
+      length-bytes l l-bytes,
     )
 
 -- ── the joint form ──────────────────────────────────────────────────────────────────────────

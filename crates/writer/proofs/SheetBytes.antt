@@ -22,8 +22,8 @@ use Rattle.sheet.specs.Spelling.{comma, lineFeed, scalar, kind, join, spell}
 use Rattle.written.specs.Enough.{gateway-enough}
 use Rattle.written.specs.Promise.{written-cost, written-few, written-places, written-header, written-doublings}
 use Rattle.written.specs.Written.Lengths.{spell-append}
-use Rattle.written.specs.Written.Columns.{digits-top}
-use Rattle.written.specs.Written.{digits, kindOf, first, second, heading, stepsDown, stepsOf, writtenAdditions, writtenDoublings, written}
+use Rattle.written.specs.Written.Columns.{digits-make}
+use Rattle.written.specs.Written.{digits, kindOf, first, second, heading, stepsDown, stepsOf, sheetOf, writtenLines, writtenAdditions, writtenDoublings, written}
 use Rattle.writer.specs.Body.Parts.{columnAt, columnsDown, lettersOf, decimalsOf, scalarsOf, headerBytes, Holds, Bounded, Ready}
 
 -- ── the header ──────────────────────────────────────────────────────────────────────────────
@@ -114,7 +114,7 @@ module _ {plan : Plan} {k l : ℤ} {p q : List ℕ} {places counted : ℕ} {out 
   few-places = subst (λ (n : ℕ). n ≤ 1025) (sym (g .long)) (written-places gateway gateway-enough plan k l (g .valid) (g .k-bounded) (g .l-bounded))
 
   pub top-full : (top : ℕ) → places ≡ suc top → T (not (blank (columnAt p q top)))
-  top-full top e = top-held p q (digits plan k l) (g .held) (digits-top k l (g .valid)) top (sym (g .long) ∙ e)
+  top-full top e = top-held p q (digits plan k l) (g .held) (digits-make k l (g .valid) .top) top (sym (g .long) ∙ e)
 
   -- the table's additions and those of the digits are the sheet's
   cost : tableAdditions plan + (counted - 1) ≡ writtenAdditions plan k l
@@ -135,7 +135,7 @@ module _ {plan : Plan} {k l : ℤ} {p q : List ℕ} {places counted : ℕ} {out 
   -- the whole sheet
   pub sheet-parts : (a d : ℕ) → a ≡ writtenAdditions plan k l → d ≡ writtenDoublings plan k l
       → written plan k l ≡ partsOf plan a d k l p q places
-  unfolding written stepsOf
+  unfolding written writtenLines writtenAdditions writtenDoublings sheetOf stepsOf
   sheet-parts a d e f =
       ap spell (written-header plan k l)
       ∙ sheet-bytes (heading plan (writtenAdditions plan k l) (writtenDoublings plan k l) k l) (tables plan) (stepsDown plan (reverse (digits plan k l)))

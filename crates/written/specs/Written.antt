@@ -1,5 +1,5 @@
--- The sheet that is written for two signed scalars and a plan: its digits are those of the row or joint form, from the highest
--- place down to place 0.
+-- The sheet that is written for two signed scalars and a plan, from columns, from the highest place down to place 0; and the one
+-- whose columns are those of the row or joint form.
 pub mod Accepted
 pub mod Columns
 pub mod Stepping
@@ -86,21 +86,39 @@ heading p a d k l =
     }
 
 -- all lines, with the counts a and d in the header
-abbrev pub linesWith : Plan → ℕ → ℕ → ℤ → ℤ → List Line
-linesWith p a d k l = sheetLines (heading p a d k l) (tables p) (stepsOf p (digits p k l))
+abbrev pub linesWith : Plan → List Column → ℕ → ℕ → ℤ → ℤ → List Line
+linesWith p cs a d k l = sheetLines (heading p a d k l) (tables p) (stepsOf p cs)
 
--- the written lines: the counts are those of the lines, of which the header is none
-unfoldable pub writtenLines : Plan → ℤ → ℤ → List Line
-writtenLines p k l = linesWith p (additions (linesWith p 0 0 k l)) (doublings (linesWith p 0 0 k l)) k l
+-- the lines of columns: the counts are those of the lines, of which the header is none
+unfoldable pub linesOf : Plan → List Column → ℤ → ℤ → List Line
+linesOf p cs k l = linesWith p cs (additions (linesWith p cs 0 0 k l)) (doublings (linesWith p cs 0 0 k l)) k l
 
--- the additions of the written sheet
-unfoldable pub writtenAdditions : Plan → ℤ → ℤ → ℕ
-writtenAdditions p k l = additions (writtenLines p k l)
+-- the additions of their sheet
+unfoldable pub additionsOf : Plan → List Column → ℤ → ℤ → ℕ
+additionsOf p cs k l = additions (linesOf p cs k l)
 
 -- its doublings: the D lines, and the T lines of 2P and 2Q
-unfoldable pub writtenDoublings : Plan → ℤ → ℤ → ℕ
-writtenDoublings p k l = doublings (writtenLines p k l)
+unfoldable pub doublingsOf : Plan → List Column → ℤ → ℤ → ℕ
+doublingsOf p cs k l = doublings (linesOf p cs k l)
 
--- the written sheet
+-- the sheet of columns
+unfoldable pub sheetOf : Plan → List Column → ℤ → ℤ → List ℕ
+sheetOf p cs k l = spell (linesOf p cs k l)
+
+-- ── the written sheet: that of the digits which the plan takes for k and l ──────────────────
+
+-- its lines
+unfoldable pub writtenLines : Plan → ℤ → ℤ → List Line
+writtenLines p k l = linesOf p (digits p k l) k l
+
+-- its additions
+unfoldable pub writtenAdditions : Plan → ℤ → ℤ → ℕ
+writtenAdditions p k l = additionsOf p (digits p k l) k l
+
+-- its doublings
+unfoldable pub writtenDoublings : Plan → ℤ → ℤ → ℕ
+writtenDoublings p k l = doublingsOf p (digits p k l) k l
+
+-- its bytes
 unfoldable pub written : Plan → ℤ → ℤ → List ℕ
-written p k l = spell (writtenLines p k l)
+written p k l = sheetOf p (digits p k l) k l

@@ -1,5 +1,5 @@
--- Every written sheet is accepted for its scalars, it is no longer than a sheet may be, and it costs the table and one addition
--- for each digit but the first: from the laws of its digits (Columns), its steps (Stepping) and its lengths (Lengths).
+-- The sheet of columns that make k and l is accepted for them, it is no longer than a sheet may be, and it costs the table and one
+-- addition for each digit but the first: from what its columns are (Makes), and the laws of its steps (Stepping) and its lengths (Lengths).
 use mathlib.Core.Path.{_≡_, refl, sym, ap, ap₂, subst, _∙_}
 use mathlib.Core.List.{List, [], _∷_, _++_, map}
 use Prim.Native.Nat.{ℕ, _+_, _*_, _-_, _^_, _≤_, _<_}
@@ -28,8 +28,9 @@ use Rattle.sheet.specs.Sound as Sounds
 use Rattle.sheet.specs.Spelling.Spelled.{ShortHeader, spelled-read}
 use Rattle.sheet.specs.Spelling.{lines}
 use Rattle.written.specs.Enough.{Enough}
-use Rattle.written.specs.Written.{digits, stepsOf, kindOf, first, second, heading, linesWith, writtenLines, writtenAdditions, writtenDoublings, written}
-use Rattle.written.specs.Written.Columns.{digits-fit, digits-value, digits-top, digits-length, digits-signs}
+use Rattle.written.specs.Makes.{Makes}
+use Rattle.written.specs.Written.{digits, stepsOf, kindOf, first, second, heading, linesWith, linesOf, additionsOf, doublingsOf, sheetOf, writtenAdditions, writtenDoublings}
+use Rattle.written.specs.Written.Columns.{digits-make, digits-signs}
 use Rattle.written.specs.Valid.{Valid, forJ, forI}
 use Rattle.written.specs.Written.Stepping.{Stepped, steps-of}
 use Rattle.written.specs.Written.Lengths.{sheet-short, sheet-bytes}
@@ -63,76 +64,76 @@ small-plan : {p : Plan} → Valid p → (first p < 10000) × (second p < 10000) 
 small-plan forJ = (omega arith, omega arith, omega arith)
 small-plan (forI {m1} {m2} v w) = (omega (arith, v .within), omega (arith, w .within), omega (arith, slots-most m1 m2 (v .within) (w .within)))
 
-module _ (p : Plan) (k l : ℤ) where
+module _ (p : Plan) (cs : List Column) (k l : ℤ) where
   -- the additions and doublings of the steps
   stepAdditions : ℕ
-  stepAdditions = additions (stepLines (stepsOf p (digits p k l)) ++ (end ∷ []))
+  stepAdditions = additions (stepLines (stepsOf p cs) ++ (end ∷ []))
 
   stepDoublings : ℕ
-  stepDoublings = doublings (stepLines (stepsOf p (digits p k l)) ++ (end ∷ []))
+  stepDoublings = doublings (stepLines (stepsOf p cs) ++ (end ∷ []))
 
-  -- the header of the written lines, and its counts
+  -- the header of the lines, and its counts
   abbrev head : Header
-  head = heading p (additions (linesWith p 0 0 k l)) (doublings (linesWith p 0 0 k l)) k l
+  head = heading p (additions (linesWith p cs 0 0 k l)) (doublings (linesWith p cs 0 0 k l)) k l
 
-  head-additions : additions (linesWith p 0 0 k l) ≡ tableAdditions p + stepAdditions
+  head-additions : additions (linesWith p cs 0 0 k l) ≡ tableAdditions p + stepAdditions
   unfolding stepAdditions
-  head-additions = sheet-additions (heading p 0 0 k l) p (stepsOf p (digits p k l))
+  head-additions = sheet-additions (heading p 0 0 k l) p (stepsOf p cs)
 
-  head-doublings : doublings (linesWith p 0 0 k l) ≡ tableDoublings p + stepDoublings
+  head-doublings : doublings (linesWith p cs 0 0 k l) ≡ tableDoublings p + stepDoublings
   unfolding stepDoublings
-  head-doublings = sheet-doublings (heading p 0 0 k l) p (stepsOf p (digits p k l))
+  head-doublings = sheet-doublings (heading p 0 0 k l) p (stepsOf p cs)
 
-  -- the additions of the written sheet are those that its header states
-  lines-additions : additions (writtenLines p k l) ≡ additions (linesWith p 0 0 k l)
-  unfolding writtenLines stepAdditions
-  lines-additions = sheet-additions head p (stepsOf p (digits p k l)) ∙ sym head-additions
+  -- the additions of the lines are those that the header states
+  lines-additions : additions (linesOf p cs k l) ≡ additions (linesWith p cs 0 0 k l)
+  unfolding linesOf stepAdditions
+  lines-additions = sheet-additions head p (stepsOf p cs) ∙ sym head-additions
 
-  lines-doublings : doublings (writtenLines p k l) ≡ doublings (linesWith p 0 0 k l)
-  unfolding writtenLines stepDoublings
-  lines-doublings = sheet-doublings head p (stepsOf p (digits p k l)) ∙ sym head-doublings
+  lines-doublings : doublings (linesOf p cs k l) ≡ doublings (linesWith p cs 0 0 k l)
+  unfolding linesOf stepDoublings
+  lines-doublings = sheet-doublings head p (stepsOf p cs) ∙ sym head-doublings
 
   -- the header states the counts of the lines
-  pub written-header : writtenLines p k l ≡ linesWith p (writtenAdditions p k l) (writtenDoublings p k l) k l
-  unfolding writtenLines writtenAdditions writtenDoublings
-  written-header = ap₂ (λ (a d : ℕ). linesWith p a d k l) (sym lines-additions) (sym lines-doublings)
+  pub header-of : linesOf p cs k l ≡ linesWith p cs (additionsOf p cs k l) (doublingsOf p cs k l) k l
+  unfolding linesOf additionsOf doublingsOf
+  header-of = ap₂ (λ (a d : ℕ). linesWith p cs a d k l) (sym lines-additions) (sym lines-doublings)
 
-  module _ (v : Valid p) where
-    stepped : Stepped p (digits p k l) (stepsOf p (digits p k l))
-    stepped = steps-of p (digits p k l) (digits-fit k l v) (digits-top k l v)
+  module _ (makes : Makes p k l cs) where
+    stepped : Stepped p cs (stepsOf p cs)
+    stepped = steps-of p cs (makes .fit) (makes .top)
 
-    -- the columns of the written lines are the plan's digits of k and l
-    pub written-columns : columns (writtenLines p k l) ≡ digits p k l
-    unfolding writtenLines
-    written-columns = sheet-columns head (tables p) (stepsOf p (digits p k l)) ∙ stepped .made
+    -- the columns of the lines are the columns
+    pub columns-of : columns (linesOf p cs k l) ≡ cs
+    unfolding linesOf
+    columns-of = sheet-columns head (tables p) (stepsOf p cs) ∙ stepped .made
 
     -- the doublings: those of the table, and one for each place below the top
-    pub written-doublings : writtenDoublings p k l ≡ tableDoublings p + (length (digits p k l) - 1)
-    unfolding stepDoublings writtenDoublings
-    written-doublings = lines-doublings ∙ head-doublings ∙ ap (λ (n : ℕ). tableDoublings p + n) (stepped .doublings-are)
+    pub doublings-of : doublingsOf p cs k l ≡ tableDoublings p + (length cs - 1)
+    unfolding stepDoublings doublingsOf
+    doublings-of = lines-doublings ∙ head-doublings ∙ ap (λ (n : ℕ). tableDoublings p + n) (stepped .doublings-are)
 
     -- the additions: those of the table, and one for each step but the load
-    pub written-cost : writtenAdditions p k l ≡ tableAdditions p + (weight p (digits p k l) - 1)
-    unfolding stepAdditions writtenAdditions
-    written-cost =
+    pub cost-of : additionsOf p cs k l ≡ tableAdditions p + (weight p cs - 1)
+    unfolding stepAdditions additionsOf
+    cost-of =
         lines-additions ∙ head-additions
-        ∙ ap (λ (n : ℕ). tableAdditions p + n) (steps-made (stepped .allowed) .1 ∙ ap (λ (cs : List Column). weight p cs - 1) (stepped .made))
+        ∙ ap (λ (n : ℕ). tableAdditions p + n) (steps-made (stepped .allowed) .1 ∙ ap (λ (ds : List Column). weight p ds - 1) (stepped .made))
 
     -- the lines come to kP + lQ
-    written-result : result (writtenLines p k l) ≡ point k l
-    written-result =
-        let c = columns-value (writtenLines p k l) in
-        let d = digits-value k l v in
-        ap₂ point (sym (c P) ∙ ap (λ (cs : List Column). value (rowP cs)) written-columns ∙ d .0)
-        (sym (c Q) ∙ ap (λ (cs : List Column). value (rowQ cs)) written-columns ∙ d .1)
+    result-of : result (linesOf p cs k l) ≡ point k l
+    result-of =
+        let c = columns-value (linesOf p cs k l) in
+        ap₂ point (sym (c P) ∙ ap (λ (ds : List Column). value (rowP ds)) columns-of ∙ makes .reads-k)
+        (sym (c Q) ∙ ap (λ (ds : List Column). value (rowQ ds)) columns-of ∙ makes .reads-l)
 
-    module _ (limits : Limits) (enough : Enough limits) (k-fits : natAbs k < 2 ^ bits limits) (l-fits : natAbs l < 2 ^ bits limits) where
-      pub places : length (digits p k l) ≤ bits limits + 1
-      places = digits-length k l v (bits limits) (length-least (natAbs k) (bits limits) k-fits) (length-least (natAbs l) (bits limits) l-fits)
+    module _ (v : Valid p) (limits : Limits) (enough : Enough limits) (k-fits : natAbs k < 2 ^ bits limits) (l-fits : natAbs l < 2 ^ bits limits) where
+      -- there are at most one more of them than the limits' bits
+      pub places : length cs ≤ bits limits + 1
+      places = omega (arith, makes .few, length-least (natAbs k) (bits limits) k-fits, length-least (natAbs l) (bits limits) l-fits)
 
-      -- its additions: at most 30 in the table, and two at each place
-      pub few-within : writtenAdditions p k l ≤ 2 * bits limits + 32
-      unfolding writtenAdditions stepAdditions
+      -- the additions: at most 30 in the table, and two at each place
+      pub few-within : additionsOf p cs k l ≤ 2 * bits limits + 32
+      unfolding additionsOf stepAdditions
       few-within = omega (arith, lines-additions, head-additions, few-additions v, stepped .additions-few, places)
 
       short : ShortHeader limits head
@@ -149,15 +150,15 @@ module _ (p : Plan) (k l : ℤ) where
             short-l = omega (arith, enough .scalars);
           }
 
-      -- the lines of the written sheet are the written lines
-      pub lines-within : lines limits (written p k l) ≡ writtenLines p k l
-      unfolding written writtenLines
+      -- the lines of the sheet are the lines that were spelled
+      pub lines-within : lines limits (sheetOf p cs k l) ≡ linesOf p cs k l
+      unfolding sheetOf linesOf
       lines-within =
-          spelled-read limits (enough .some-figures) (writtenLines p k l) (sheet-short limits v head short (stepped .allowed))
+          spelled-read limits (enough .some-figures) (linesOf p cs k l) (sheet-short limits v head short (stepped .allowed))
 
-      -- the written sheet is no longer than the limits allow
-      pub fits-within : length (written p k l) ≤ limits .sheet
-      unfolding written writtenLines
+      -- the sheet is no longer than the limits allow
+      pub fits-within : length (sheetOf p cs k l) ≤ limits .sheet
+      unfolding sheetOf linesOf
       fits-within =
           omega (
             arith,
@@ -168,61 +169,64 @@ module _ (p : Plan) (k l : ℤ) where
             enough .sheet,
           )
 
-      sound : Sound limits (written p k l) k l
-      unfolding writtenLines
+      sound : Sound limits (sheetOf p cs k l) k l
+      unfolding linesOf
       sound =
           record {
             head = head;
-            steps = stepsOf p (digits p k l);
+            steps = stepsOf p cs;
             short = fits-within;
-            laid = lines-within ∙ ap (λ (q : Plan). sheetLines head (tables q) (stepsOf p (digits p k l))) (sym (same));
+            laid = lines-within ∙ ap (λ (q : Plan). sheetLines head (tables q) (stepsOf p cs)) (sym (same));
             windows = windows-heading v;
             stored = ap slots (sym same);
-            allowed = subst (λ (q : Plan). Allowed q (stepsOf p (digits p k l))) (sym same) (stepped .allowed);
+            allowed = subst (λ (q : Plan). Allowed q (stepsOf p cs)) (sym same) (stepped .allowed);
             low = omega (arith, stepped .doubles, places, enough .doublings);
             adds = sym lines-additions ∙ ap additions (sym lines-within);
             doubles = sym lines-doublings ∙ ap doublings (sym lines-within);
             carries-k = refl;
             carries-l = refl;
-            reads = ap result lines-within ∙ written-result;
+            reads = ap result lines-within ∙ result-of;
           }
         where
           same : plan head ≡ p
-          same = plan-heading p (additions (linesWith p 0 0 k l)) (doublings (linesWith p 0 0 k l)) k l
+          same = plan-heading p (additions (linesWith p cs 0 0 k l)) (doublings (linesWith p cs 0 0 k l)) k l
 
-      -- the written sheet is accepted for k and l
-      pub accepted-within : Accepted limits (written p k l) k l
-      accepted-within = accepted-exactly limits (written p k l) k l .1 sound
+      -- the sheet is accepted for k and l
+      pub accepted-within : Accepted limits (sheetOf p cs k l) k l
+      accepted-within = accepted-exactly limits (sheetOf p cs k l) k l .1 sound
 
       -- its plan
-      pub plan-within : plan (Answer.heading (lines limits (written p k l))) ≡ p
-      unfolding writtenLines sheetLines
+      pub plan-within : plan (Answer.heading (lines limits (sheetOf p cs k l))) ≡ p
+      unfolding linesOf sheetLines
       plan-within =
           ap (λ (ls : List Line). plan (Answer.heading ls)) lines-within
-          ∙ plan-heading p (additions (linesWith p 0 0 k l)) (doublings (linesWith p 0 0 k l)) k l
+          ∙ plan-heading p (additions (linesWith p cs 0 0 k l)) (doublings (linesWith p cs 0 0 k l)) k l
 
       -- its slots are those of the plan
-      pub slots-within : sheetSlots limits (written p k l) ≡ slots p
+      pub slots-within : sheetSlots limits (sheetOf p cs k l) ≡ slots p
       unfolding sheetSlots
       slots-within = ap slots plan-within
 
       -- its additions are counted from its lines
-      pub additions-within : sheetAdditions limits (written p k l) ≡ writtenAdditions p k l
-      unfolding sheetAdditions writtenAdditions
+      pub additions-within : sheetAdditions limits (sheetOf p cs k l) ≡ additionsOf p cs k l
+      unfolding sheetAdditions additionsOf
       additions-within = ap additions lines-within
 
       -- its header states its doublings
-      pub doubled-within : Answer.heading (lines limits (written p k l)) .doublings ≡ writtenDoublings p k l
+      pub doubled-within : Answer.heading (lines limits (sheetOf p cs k l)) .doublings ≡ doublingsOf p cs k l
       unfolding sheetLines
-      doubled-within = ap (λ (ls : List Line). Answer.heading ls .doublings) (lines-within ∙ written-header)
+      doubled-within = ap (λ (ls : List Line). Answer.heading ls .doublings) (lines-within ∙ header-of)
 
 -- the signs of the scalars change neither the additions nor the doublings
 pub written-signs : (p : Plan) (k l : ℤ) → Valid p
     → (writtenAdditions p k l ≡ writtenAdditions p (pos (natAbs k)) (pos (natAbs l))) × (writtenDoublings p k l ≡ writtenDoublings p (pos (natAbs k)) (pos (natAbs l)))
+unfolding writtenAdditions writtenDoublings
 written-signs p k l v =
     let x : ℤ = pos (natAbs k) in
     let y : ℤ = pos (natAbs l) in
+    let a = digits-make k l v in
+    let b = digits-make x y v in
     let same = digits-signs k l v in (
-      written-cost p k l v ∙ ap (λ (n : ℕ). tableAdditions p + (n - 1)) (same .1) ∙ sym (written-cost p x y v),
-      written-doublings p k l v ∙ ap (λ (n : ℕ). tableDoublings p + (n - 1)) (same .0) ∙ sym (written-doublings p x y v),
+      cost-of p (digits p k l) k l a ∙ ap (λ (n : ℕ). tableAdditions p + (n - 1)) (same .1) ∙ sym (cost-of p (digits p x y) x y b),
+      doublings-of p (digits p k l) k l a ∙ ap (λ (n : ℕ). tableDoublings p + (n - 1)) (same .0) ∙ sym (doublings-of p (digits p x y) x y b),
     )

@@ -1,5 +1,5 @@
--- The digits that a plan takes are columns of the plan, they read k and l, the top column is not zero, and there are at most
--- one more than the longer scalar has bits: from the laws of the row and of the joint form.
+-- The digits that a plan takes make k and l, and so does for a plan I any pair of rows over its digits: from the laws of the row
+-- and of the joint form.
 use mathlib.Core.Path.{_≡_, refl, sym, ap, subst, _∙_}
 use mathlib.Core.Logic.{_≢_}
 use mathlib.Core.Bool.{Bool, true, false, not}
@@ -25,8 +25,10 @@ use Rattle.forms.specs.Row.Length.{row-length}
 use Rattle.forms.specs.Row.Negated.{row-size}
 use Rattle.forms.specs.Row.Value.{row-digits, row-value, row-top}
 use Rattle.sheet.specs.declared.Plan.{Plan}
-use Rattle.sheet.specs.Digits.{rowP, rowQ, Fits, weight}
+use Rattle.sheet.specs.declared.Plan.the-variants.{I}
+use Rattle.sheet.specs.Digits.{rowP, rowQ, weight}
 use Rattle.sheet.specs.Plan.{point}
+use Rattle.written.specs.Makes.{Makes}
 use Rattle.written.specs.Valid.{Valid, forJ, forI, window-positive}
 use Rattle.written.specs.Written.{digits}
 use Rattle.digits.specs.Two.{paired}
@@ -99,40 +101,32 @@ paired-top xs ys f g i e =
 
 -- ── the digits of a plan ────────────────────────────────────────────────────────────────────
 
+-- two rows over the digits of a plan I, each with a top that is not 0 and at most one place more than its value has bits, make their values
+pub rows-make : {m1 m2 : ℕ} {k l : ℤ} (xs ys : List ℤ) → Over m1 xs → Over m2 ys → value xs ≡ k → value ys ≡ l
+    → ((i : ℕ) → length xs ≡ suc i → getD xs i (pos 0) ≢ pos 0) → ((i : ℕ) → length ys ≡ suc i → getD ys i (pos 0) ≢ pos 0)
+    → length xs ≤ bitLength (natAbs k) + 1 → length ys ≤ bitLength (natAbs l) + 1 → Makes (I m1 m2) k l (paired xs ys)
+rows-make xs ys o u e f t w a b =
+    let values = paired-value xs ys in
+    record {
+      fit = paired-over xs ys o u;
+      reads-k = values .0 ∙ e;
+      reads-l = values .1 ∙ f;
+      top = paired-top xs ys t w;
+      few = omega (arith, paired-length xs ys);
+    }
+
 module _ (k l : ℤ) where
-  -- they are the plan's
-  pub digits-fit : {p : Plan} → Valid p → Fits p (digits p k l)
+  -- the digits of a plan make k and l
+  pub digits-make : {p : Plan} → Valid p → Makes p k l (digits p k l)
   unfolding digits
-  digits-fit forJ = joint-small k l
-  digits-fit (forI {m1} {m2} v w) =
-      paired-over (Row.row m1 k) (Row.row m2 l) (row-digits m1 k (window-positive v)) (row-digits m2 l (window-positive w))
-
-  -- they read k and l
-  pub digits-value : {p : Plan} → Valid p → (value (rowP (digits p k l)) ≡ k) × (value (rowQ (digits p k l)) ≡ l)
-  unfolding digits
-  digits-value forJ = joint-value k l
-  digits-value (forI {m1} {m2} v w) =
-      let r = paired-value (Row.row m1 k) (Row.row m2 l) in
-      (r .0 ∙ row-value m1 k (window-positive v), r .1 ∙ row-value m2 l (window-positive w))
-
-  -- the top column is not zero
-  pub digits-top : {p : Plan} → Valid p → Topped (digits p k l)
-  unfolding digits
-  digits-top forJ = joint-top k l
-  digits-top (forI {m1} {m2} v w) =
-      paired-top (Row.row m1 k) (Row.row m2 l) (row-top m1 k (window-positive v)) (row-top m2 l (window-positive w))
-
-  -- scalars below 2^b have at most b + 1 of them
-  pub digits-length : {p : Plan} → Valid p → (b : ℕ) → bitLength (natAbs k) ≤ b → bitLength (natAbs l) ≤ b → length (digits p k l) ≤ b + 1
-  unfolding digits
-  digits-length forJ b h g = omega (arith, joint-length k l)
-  digits-length (forI {m1} {m2} v w) b h g =
-      omega (
-        arith,
-        paired-length (Row.row m1 k) (Row.row m2 l),
-        row-length m1 k (window-positive v),
-        row-length m2 l (window-positive w),
-      )
+  digits-make forJ =
+      let values = joint-value k l in
+      record { fit = joint-small k l; reads-k = values .0; reads-l = values .1; top = joint-top k l; few = joint-length k l }
+  digits-make (forI {m1} {m2} v w) =
+      let a = window-positive v in
+      let b = window-positive w in
+      rows-make (Row.row m1 k) (Row.row m2 l) (row-digits m1 k a) (row-digits m2 l b) (row-value m1 k a) (row-value m2 l b) (row-top m1 k a) (row-top m2 l b)
+      (row-length m1 k a) (row-length m2 l b)
 
   -- the signs of the scalars change neither how many there are nor what the plan counts
   pub digits-signs : {p : Plan} → Valid p
