@@ -86,7 +86,7 @@ module _ (limits : Limits) (k : List ℕ) (k-sign : ℕ) (l : List ℕ) (l-sign 
       plan-answer (forI v w) = rw (sizes, of-window v, of-window w)
 
       plan-buffer : {p : Plan} → Valid p → planBuffer limits p k k-sign l l-sign buffer ≡ left (planAnswer limits p k k-sign l l-sign (length buffer)) (written p (signedScalar k k-sign) (signedScalar l l-sign)) buffer
-      unfolding jBuffer iBuffer
+      unfolding jBuffer iAnswer iBuffer
       plan-buffer forJ = refl
       plan-buffer (forI v w) = refl
 

@@ -20,13 +20,13 @@ use Rattle.sheet.specs.Plan.{odds}
 use Rattle.sheet.specs.Questions.{additions, doublings}
 use Rattle.sheet.specs.Sound.{moveLines, sheetLines}
 use Rattle.sheet.specs.Spelling.{lineFeed, join, spell, cut}
-use Rattle.written.specs.Written.{digits, addAll, movesOf, stepsOf, linesOf, additionsOf, doublingsOf, sheetOf, writtenLines, written, writtenAdditions, writtenDoublings}
+use Rattle.written.specs.Written.{digits, addAll, movesOf, stepsOf, linesOf, additionsOf, doublingsOf, sheetOf}
 use Rattle.chooser.specs.Cheapest.{interleaved, plans, within, key, cheapestPlan, cheapest}
 use Rattle.chooser.specs.Lexicographic.{before, least}
 
 -- the cheapest sheet, with every definition that it computes by
 unfoldable pub computed : ℤ → ℤ → ℕ → List ℕ
-unfolding Row.row Row.rowIn Row.digit Row.rest residue width bitLength bitLengthIn half Joint.joint Joint.jointIn Joint.column Joint.digit Joint.rest numeralIn numeral odds additions doublings moveLines sheetLines join spell cut paired digits addAll movesOf stepsOf linesOf additionsOf doublingsOf sheetOf writtenLines written writtenAdditions writtenDoublings interleaved plans within key cheapestPlan cheapest before least
+unfolding Row.row Row.rowIn Row.digit Row.rest residue width bitLength bitLengthIn half Joint.joint Joint.jointIn Joint.column Joint.digit Joint.rest numeralIn numeral odds additions doublings moveLines sheetLines join spell cut paired digits addAll movesOf stepsOf linesOf additionsOf doublingsOf sheetOf interleaved plans within key cheapestPlan cheapest before least
 computed k l limit = cheapest k l limit
 
 -- a sample: the first line of the cheapest sheet for k and l under a limit

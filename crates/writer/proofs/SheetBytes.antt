@@ -1,16 +1,16 @@
--- The bytes of a written sheet, part by part, from the rows that hold its digits: header, T lines, steps, E.
+-- The bytes of a sheet, part by part, from the rows that have its columns: header, T lines, steps, E.
 use mathlib.Core.Path.{_≡_, refl, sym, ap, ap₂, subst, _∙_}
 use mathlib.Core.Bool.{not}
 use mathlib.Core.List.{List, [], _∷_, _++_, map, reverse, reverse-append, append-assoc}
-use Prim.Native.Nat.{ℕ, zero, suc, _+_, _-_, _≤_}
+use Prim.Native.Nat.{ℕ, zero, suc, _+_, _-_, _≤_, _<_}
 use native.Mathlib.Omega.{arith}
 use lib.Dec.{T}
 use lib.IntN.{ℤ}
-use lib.ListN.{length, getD, take}
-use lib.Seq.{take-suc, take-length}
+use lib.ListN.{length, getD, length-append}
+use lib.Seq.{getD-at}
+use Rattle.digits.specs.Buffer.{rowBelow, columnsBelow}
 use Rattle.digits.specs.Limits.{gateway}
-use Rattle.digits.specs.Two.{Column, blank, blankColumn}
-use Rattle.forms.specs.Joint.{Topped}
+use Rattle.digits.specs.Two.{Column, blank, blankColumn, paired}
 use Rattle.sheet.specs.declared.Largest.{Largest}
 use Rattle.sheet.specs.declared.Plan.{Plan}
 use Rattle.sheet.specs.declared.Plan.the-variants.{J, I}
@@ -20,11 +20,10 @@ use Rattle.sheet.specs.Plan.{Point, slots, tables, tableAdditions, tableDoublin
 use Rattle.sheet.specs.Sound.{Steps, stepLines, sheetLines}
 use Rattle.sheet.specs.Spelling.{comma, lineFeed, scalar, kind, join, spell}
 use Rattle.written.specs.Enough.{gateway-enough}
-use Rattle.written.specs.Promise.{written-cost, written-few, written-places, written-header, written-doublings}
+use Rattle.written.specs.Promise.{sheet-cost, sheet-few, sheet-places, sheet-header, sheet-doublings}
 use Rattle.written.specs.Written.Lengths.{spell-append}
-use Rattle.written.specs.Written.Columns.{digits-make}
-use Rattle.written.specs.Written.{digits, kindOf, first, second, heading, stepsDown, stepsOf, sheetOf, writtenLines, writtenAdditions, writtenDoublings, written}
-use Rattle.writer.specs.Body.Parts.{columnAt, columnsDown, lettersOf, decimalsOf, scalarsOf, headerBytes, Holds, Bounded, Ready}
+use Rattle.written.specs.Written.{kindOf, first, second, heading, stepsDown, stepsOf, additionsOf, doublingsOf, sheetOf}
+use Rattle.writer.specs.Body.Parts.{columnAt, columnsDown, lettersOf, decimalsOf, scalarsOf, headerBytes, Bounded, Ready}
 
 -- ── the header ──────────────────────────────────────────────────────────────────────────────
 
@@ -66,23 +65,40 @@ header-parts plan x s a d k l w e f g =
     let u = windows-of plan in
     rw (e, f, g, u .0, u .1)
 
--- ── the digits that the rows hold ───────────────────────────────────────────────────────────
+-- ── the columns of two rows ─────────────────────────────────────────────────────────────────
 
-module _ (p q : List ℕ) (cs : List Column) (held : Holds p q cs) where
-  below : (n : ℕ) → n ≤ length cs → columnsDown p q n ≡ reverse (take n cs)
-  unfolding columnsDown
-  below zero h = refl
-  below (suc n) h =
-      ap₂ (λ (c : Column) (l : List Column). c ∷ l) (held .columns n) (below n (omega arith))
-      ∙ sym (ap reverse (take-suc cs n blankColumn h) ∙ reverse-append (take n cs) (getD cs n blankColumn ∷ []))
+-- below the next place there is one column more
+next-column : (n : ℕ) (p q : List ℕ) → n < length p → n < length q → columnsBelow (suc n) p q ≡ columnsBelow n p q ++ (columnAt p q n ∷ [])
+unfolding columnsBelow rowBelow paired
+next-column n [] q h g = absurd (omega arith)
+next-column n (a ∷ p) [] h g = absurd (omega arith)
+next-column zero (a ∷ p) (b ∷ q) h g = refl
+next-column (suc n) (a ∷ p) (b ∷ q) h g =
+    ap (λ (cs : List Column). columnAt (a ∷ p) (b ∷ q) 0 ∷ cs) (next-column n p q (omega arith) (omega arith))
 
-  -- from the highest place down they are the columns
-  pub columns-below : columnsDown p q (length cs) ≡ reverse cs
-  columns-below = below (length cs) (omega arith) ∙ ap reverse (take-length cs)
+module _ (p q : List ℕ) where
+  -- there are as many as places
+  columns-long : (n : ℕ) → n ≤ length p → n ≤ length q → length (columnsBelow n p q) ≡ n
+  unfolding columnsBelow rowBelow paired
+  columns-long zero h g = refl
+  columns-long (suc n) h g =
+      ap length (next-column n p q h g)
+      ∙ length-append (columnsBelow n p q) (columnAt p q n ∷ [])
+      ∙ omega (arith, columns-long n (omega arith) (omega arith))
+
+  -- from the highest place down they are the same
+  columns-turned : (n : ℕ) → n ≤ length p → n ≤ length q → columnsDown p q n ≡ reverse (columnsBelow n p q)
+  unfolding columnsDown columnsBelow rowBelow paired
+  columns-turned zero h g = refl
+  columns-turned (suc n) h g =
+      ap (λ (cs : List Column). columnAt p q n ∷ cs) (columns-turned n (omega arith) (omega arith))
+      ∙ sym (ap reverse (next-column n p q h g) ∙ reverse-append (columnsBelow n p q) (columnAt p q n ∷ []))
 
   -- the top column
-  pub top-held : Topped cs → (top : ℕ) → length cs ≡ suc top → T (not (blank (columnAt p q top)))
-  top-held t top e = subst (λ (c : Column). T (not (blank c))) (sym (held .columns top)) (t top e)
+  columns-top : (n : ℕ) → n < length p → n < length q → getD (columnsBelow (suc n) p q) n blankColumn ≡ columnAt p q n
+  columns-top n h g =
+      ap (λ (cs : List Column). getD cs n blankColumn) (next-column n p q h g)
+      ∙ getD-at (columnsBelow n p q) (columnAt p q n) [] blankColumn n (columns-long n (omega arith) (omega arith))
 
 -- ── the sheet ───────────────────────────────────────────────────────────────────────────────
 
@@ -106,37 +122,45 @@ partsOf plan a d k l p q places =
     ++ (spell (map table (tables plan)) ++ (spell (stepLines (stepsDown plan (columnsDown p q places))) ++ (69 ∷ lineFeed ∷ [])))
 
 module _ {plan : Plan} {k l : ℤ} {p q : List ℕ} {places counted : ℕ} {out : List ℕ} (g : Ready plan k l p q places counted out) where
-  all-below : columnsDown p q places ≡ reverse (digits plan k l)
-  all-below = ap (columnsDown p q) (g .long) ∙ columns-below p q (digits plan k l) (g .held)
+  -- the columns at the places in use
+  abbrev cs : List Column
+  cs = columnsBelow places p q
+
+  long : length cs ≡ places
+  long = columns-long p q places (g .p-long) (g .q-long)
 
   pub few-places : places ≤ 1025
   unfolding Bounded
-  few-places = subst (λ (n : ℕ). n ≤ 1025) (sym (g .long)) (written-places gateway gateway-enough plan k l (g .valid) (g .k-bounded) (g .l-bounded))
+  few-places = subst (λ (n : ℕ). n ≤ 1025) long (sheet-places gateway gateway-enough plan cs k l (g .valid) (g .makes) (g .k-bounded) (g .l-bounded))
 
   pub top-full : (top : ℕ) → places ≡ suc top → T (not (blank (columnAt p q top)))
-  top-full top e = top-held p q (digits plan k l) (g .held) (digits-make k l (g .valid) .top) top (sym (g .long) ∙ e)
+  top-full top e =
+      subst (λ (c : Column). T (not (blank c)))
+      (ap (λ (n : ℕ). getD (columnsBelow n p q) top blankColumn) e ∙ columns-top p q top (omega (arith, g .p-long)) (omega (arith, g .q-long)))
+      (g .makes .top top (long ∙ e))
 
-  -- the table's additions and those of the digits are the sheet's
-  cost : tableAdditions plan + (counted - 1) ≡ writtenAdditions plan k l
-  cost = ap (λ (n : ℕ). tableAdditions plan + (n - 1)) (g .heavy) ∙ sym (written-cost plan k l (g .valid))
+  -- the table's additions and those of the columns are the sheet's
+  cost : tableAdditions plan + (counted - 1) ≡ additionsOf plan cs k l
+  cost = ap (λ (n : ℕ). tableAdditions plan + (n - 1)) (g .heavy) ∙ sym (sheet-cost plan cs k l (g .makes))
 
   -- so the plan counts few
   pub few-counted : tableAdditions plan + (counted - 1) ≤ 2080
   unfolding Bounded
-  few-counted = omega (arith, cost, written-few gateway gateway-enough plan k l (g .valid) (g .k-bounded) (g .l-bounded))
+  few-counted = omega (arith, cost, sheet-few gateway gateway-enough plan cs k l (g .valid) (g .makes) (g .k-bounded) (g .l-bounded))
 
   -- what is added up are the additions and the doublings of the sheet
-  pub additions-are : (t r : ℕ) → t ≡ tableAdditions plan → r ≡ counted - 1 → t + r ≡ writtenAdditions plan k l
+  pub additions-are : (t r : ℕ) → t ≡ tableAdditions plan → r ≡ counted - 1 → t + r ≡ additionsOf plan cs k l
   additions-are t r e f = ap₂ (λ (x y : ℕ). x + y) e f ∙ cost
 
-  pub doublings-are : (u r : ℕ) → u ≡ tableDoublings plan → r ≡ places - 1 → u + r ≡ writtenDoublings plan k l
-  doublings-are u r e f = ap₂ (λ (x y : ℕ). x + y) e (f ∙ ap (λ (n : ℕ). n - 1) (g .long)) ∙ sym (written-doublings plan k l (g .valid))
+  pub doublings-are : (u r : ℕ) → u ≡ tableDoublings plan → r ≡ places - 1 → u + r ≡ doublingsOf plan cs k l
+  doublings-are u r e f =
+      ap₂ (λ (x y : ℕ). x + y) e (f ∙ ap (λ (n : ℕ). n - 1) (sym long)) ∙ sym (sheet-doublings plan cs k l (g .makes))
 
   -- the whole sheet
-  pub sheet-parts : (a d : ℕ) → a ≡ writtenAdditions plan k l → d ≡ writtenDoublings plan k l
-      → written plan k l ≡ partsOf plan a d k l p q places
-  unfolding written writtenLines writtenAdditions writtenDoublings sheetOf stepsOf
+  pub sheet-parts : (a d : ℕ) → a ≡ additionsOf plan cs k l → d ≡ doublingsOf plan cs k l
+      → sheetOf plan cs k l ≡ partsOf plan a d k l p q places
+  unfolding sheetOf stepsOf
   sheet-parts a d e f =
-      ap spell (written-header plan k l)
-      ∙ sheet-bytes (heading plan (writtenAdditions plan k l) (writtenDoublings plan k l) k l) (tables plan) (stepsDown plan (reverse (digits plan k l)))
-      ∙ sym (ap₂ (λ (x : Header) (cs : List Column). headerBytes x ++ (spell (map table (tables plan)) ++ (spell (stepLines (stepsDown plan cs)) ++ (69 ∷ lineFeed ∷ [])))) (ap₂ (λ (x y : ℕ). heading plan x y k l) e f) all-below)
+      ap spell (sheet-header plan cs k l)
+      ∙ sheet-bytes (heading plan (additionsOf plan cs k l) (doublingsOf plan cs k l) k l) (tables plan) (stepsDown plan (reverse cs))
+      ∙ sym (ap₂ (λ (x : Header) (ds : List Column). headerBytes x ++ (spell (map table (tables plan)) ++ (spell (stepLines (stepsDown plan ds)) ++ (69 ∷ lineFeed ∷ [])))) (ap₂ (λ (x y : ℕ). heading plan x y k l) e f) (columns-turned p q places (g .p-long) (g .q-long)))

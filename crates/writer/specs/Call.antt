@@ -13,11 +13,12 @@ use Rattle.digits.specs.declared.limits.Limits.{Limits}
 use Rattle.digits.specs.Missed.{missed}
 use Rattle.digits.specs.Row.{isWindow}
 use Rattle.digits.specs.Scalar.{signedScalar, sized}
+use Rattle.digits.specs.Two.{Column}
 use Rattle.sheet.specs.declared.Plan.{Plan}
 use Rattle.sheet.specs.declared.Plan.the-variants.{J, I}
 use Rattle.sheet.specs.Answer.{Accepted, sheetSlots, sheetAdditions}
 use Rattle.sheet.specs.Plan.{slots}
-use Rattle.written.specs.Written.{written, writtenAdditions}
+use Rattle.written.specs.Written.{digits, sheetOf, additionsOf, written}
 use Rattle.writer.specs.declared.answer.Sheet.{Sheet}
 use Rattle.writer.specs.declared.answer.Sheet.the-variants.{BadScalar, BadWindow, NoRoom, BadLimit, Written}
 
@@ -49,9 +50,13 @@ additions (Written n a) = a
 abbrev pub roomy : Limits → ℕ → Bool
 roomy limits room = leb (limits .sheet) room
 
--- the answer of a call that has written the sheet of a plan for k and l
+-- the answer of a call that has written the sheet of columns for k and l
+abbrev pub wroteColumns : Plan → List Column → ℤ → ℤ → Sheet
+wroteColumns p cs k l = Written (length (sheetOf p cs k l)) (additionsOf p cs k l)
+
+-- and of one that has written the sheet of a plan for k and l
 abbrev pub wrote : Plan → ℤ → ℤ → Sheet
-wrote p k l = Written (length (written p k l)) (writtenAdditions p k l)
+wrote p k l = wroteColumns p (digits p k l) k l
 
 -- the buffer after a call: the sheet, and behind it what was lent; as lent where a question was missed
 abbrev pub left : Sheet → List ℕ → List ℕ → List ℕ
@@ -97,13 +102,22 @@ abbrev pub iQuestion : Limits → List ℕ → List ℕ → ℕ → ℕ → ℕ 
 iQuestion limits k l m1 m2 room =
     missed ((1, sized limits k) ∷ (1, sized limits l) ∷ (2, isWindow m1) ∷ (2, isWindow m2) ∷ (3, roomy limits room) ∷ [])
 
--- the answer: the first question missed, or the sheet
+-- the answer: the first question missed, or the sheet of the columns taken
+abbrev pub columnsAnswer : Limits → List ℕ → ℕ → List ℕ → ℕ → ℕ → ℕ → List Column → ℕ → Sheet
+columnsAnswer limits k k-sign l l-sign m1 m2 cs room =
+    cond (sized limits k && sized limits l)
+    (cond (isWindow m1 && isWindow m2) (cond (roomy limits room) (wroteColumns (I m1 m2) cs (signedScalar k k-sign) (signedScalar l l-sign)) NoRoom) BadWindow)
+    BadScalar
+
+abbrev pub columnsBuffer : Limits → List ℕ → ℕ → List ℕ → ℕ → ℕ → ℕ → List Column → List ℕ → List ℕ
+columnsBuffer limits k k-sign l l-sign m1 m2 cs buffer =
+    left (columnsAnswer limits k k-sign l l-sign m1 m2 cs (length buffer)) (sheetOf (I m1 m2) cs (signedScalar k k-sign) (signedScalar l l-sign)) buffer
+
+-- the columns are the digits that the plan takes for k and l
 unfoldable pub iAnswer : Limits → List ℕ → ℕ → List ℕ → ℕ → ℕ → ℕ → ℕ → Sheet
 iAnswer limits k k-sign l l-sign m1 m2 room =
-    cond (sized limits k && sized limits l)
-    (cond (isWindow m1 && isWindow m2) (cond (roomy limits room) (wrote (I m1 m2) (signedScalar k k-sign) (signedScalar l l-sign)) NoRoom) BadWindow)
-    BadScalar
+    columnsAnswer limits k k-sign l l-sign m1 m2 (digits (I m1 m2) (signedScalar k k-sign) (signedScalar l l-sign)) room
 
 unfoldable pub iBuffer : Limits → List ℕ → ℕ → List ℕ → ℕ → ℕ → ℕ → List ℕ → List ℕ
 iBuffer limits k k-sign l l-sign m1 m2 buffer =
-    left (iAnswer limits k k-sign l l-sign m1 m2 (length buffer)) (written (I m1 m2) (signedScalar k k-sign) (signedScalar l l-sign)) buffer
+    columnsBuffer limits k k-sign l l-sign m1 m2 (digits (I m1 m2) (signedScalar k k-sign) (signedScalar l l-sign)) buffer

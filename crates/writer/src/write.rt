@@ -4,12 +4,14 @@ ghost use mathlib.Core.List.{_++_};
 ghost use Prim.Native.Nat.{ℕ, suc, _-_, _≤_};
 ghost use lib.Dec.{T};
 ghost use lib.ListN.{length, drop};
+ghost use Rattle.digits.specs.Buffer.{columnsBelow};
 ghost use Rattle.digits.specs.Scalar.{signedScalar};
 ghost use Rattle.digits.specs.Two.{blank};
 ghost use Rattle.sheet.specs.Sound.{stepLines};
 ghost use Rattle.sheet.specs.Spelling.{spell};
-ghost use Rattle.written.specs.Written.{stepsDown, written, writtenAdditions};
+ghost use Rattle.written.specs.Written.{stepsDown, sheetOf};
 ghost use Rattle.writer.specs.Body.Parts.{Put, Room, columnAt, columnsDown, Ready};
+ghost use Rattle.writer.specs.Call.{wroteColumns};
 use crate::answer::Sheet;
 use sheet::Plan;
 
@@ -35,8 +37,8 @@ fn put_places(out: &mut [u8], at: usize, plan: Plan, p: &[u8], q: &[u8], places:
     crate::steps::put_all(out, at, plan, p, q, places - 1)
 }
 
-// Writes the sheet of two scalars for a plan, of whose digits the two rows hold the bytes. They have so many places, and the weight is
-// what the plan counts of them.
+// Writes the sheet of two scalars for a plan from the columns of two rows, which have so many places. The weight is what the plan counts of
+// them.
 pub fn write_sheet(
     out: &mut [u8],
     plan: Plan,
@@ -50,8 +52,8 @@ pub fn write_sheet(
     weight: usize,
 ) -> Sheet
     requires { ⌜ Ready plan (signedScalar (now k) «k_sign») (signedScalar (now l) «l_sign») (now p) (now q) places weight (now out) ⌝ }
-    ensures { λ r. ⌜ r ≡ Sheet.Written (length (written plan (signedScalar (now (k .entry)) «k_sign») (signedScalar (now (l .entry)) «l_sign»))) (writtenAdditions plan (signedScalar (now (k .entry)) «k_sign») (signedScalar (now (l .entry)) «l_sign»)) ⌝ }
-    ensures { λ _. ⌜ now (out .exit) ≡ written plan (signedScalar (now (k .entry)) «k_sign») (signedScalar (now (l .entry)) «l_sign») ++ drop (length (written plan (signedScalar (now (k .entry)) «k_sign») (signedScalar (now (l .entry)) «l_sign»))) (now (out .entry)) ⌝ }
+    ensures { λ r. ⌜ r ≡ wroteColumns plan (columnsBelow places (now (p .entry)) (now (q .entry))) (signedScalar (now (k .entry)) «k_sign») (signedScalar (now (l .entry)) «l_sign») ⌝ }
+    ensures { λ _. ⌜ now (out .exit) ≡ sheetOf plan (columnsBelow places (now (p .entry)) (now (q .entry))) (signedScalar (now (k .entry)) «k_sign») (signedScalar (now (l .entry)) «l_sign») ++ drop (length (sheetOf plan (columnsBelow places (now (p .entry)) (now (q .entry))) (signedScalar (now (k .entry)) «k_sign») (signedScalar (now (l .entry)) «l_sign»))) (now (out .entry)) ⌝ }
 {
     let additions = plan.table_additions() + less_one(weight as u32);
     let doublings = plan.table_doublings() + less_one(places as u32);

@@ -84,22 +84,18 @@ module _ (limits : Limits) (enough : Enough limits) (p : Plan) (cs : List Column
 
 -- its header states the counts of its lines
 pub written-header : (p : Plan) (k l : ℤ) → writtenLines p k l ≡ linesWith p (digits p k l) (writtenAdditions p k l) (writtenDoublings p k l) k l
-unfolding writtenLines writtenAdditions writtenDoublings
 written-header p k l = sheet-header p (digits p k l) k l
 
 -- its columns are the plan's digits of k and l
 pub written-columns : (p : Plan) (k l : ℤ) → Valid p → columns (writtenLines p k l) ≡ digits p k l
-unfolding writtenLines
 written-columns p k l v = sheet-columns p (digits p k l) k l (digits-make k l v)
 
 -- its doublings: those of the table, and one for each place below the top
 pub written-doublings : (p : Plan) (k l : ℤ) → Valid p → writtenDoublings p k l ≡ tableDoublings p + (length (digits p k l) - 1)
-unfolding writtenDoublings
 written-doublings p k l v = sheet-doublings p (digits p k l) k l (digits-make k l v)
 
 -- its additions: those of the table, and one for each digit that the plan counts but the first
 pub written-cost : (p : Plan) (k l : ℤ) → Valid p → writtenAdditions p k l ≡ tableAdditions p + (weight p (digits p k l) - 1)
-unfolding writtenAdditions
 written-cost p k l v = sheet-cost p (digits p k l) k l (digits-make k l v)
 
 -- the signs of the scalars change neither count
@@ -111,42 +107,34 @@ written-signs = Within.written-signs
 module _ (limits : Limits) (enough : Enough limits) (p : Plan) (k l : ℤ) (v : Valid p) (k-fits : natAbs k < 2 ^ bits limits) (l-fits : natAbs l < 2 ^ bits limits) where
   -- every written sheet is accepted for its scalars
   pub written-accepted : Accepted limits (written p k l) k l
-  unfolding written
   written-accepted = sheet-accepted limits enough p (digits p k l) k l v (digits-make k l v) k-fits l-fits
 
   -- it is never longer than a sheet may be
   pub written-fits : length (written p k l) ≤ limits .sheet
-  unfolding written
   written-fits = sheet-fits limits enough p (digits p k l) k l v (digits-make k l v) k-fits l-fits
 
   -- its lines are the written lines
   pub written-lines : lines limits (written p k l) ≡ writtenLines p k l
-  unfolding written writtenLines
   written-lines = sheet-lines limits enough p (digits p k l) k l v (digits-make k l v) k-fits l-fits
 
   -- its plan is the plan
   pub written-plan : plan (Answer.heading (lines limits (written p k l))) ≡ p
-  unfolding written
   written-plan = sheet-plan limits enough p (digits p k l) k l v (digits-make k l v) k-fits l-fits
 
   -- its slots are those of its plan
   pub written-slots : sheetSlots limits (written p k l) ≡ slots p
-  unfolding written
   written-slots = sheet-slots limits enough p (digits p k l) k l v (digits-make k l v) k-fits l-fits
 
   -- its additions are those of the written lines
   pub written-counted : sheetAdditions limits (written p k l) ≡ writtenAdditions p k l
-  unfolding written writtenAdditions
   written-counted = sheet-counted limits enough p (digits p k l) k l v (digits-make k l v) k-fits l-fits
 
   -- its header states its doublings
   pub written-doubled : Answer.heading (lines limits (written p k l)) .doublings ≡ writtenDoublings p k l
-  unfolding written writtenDoublings
   written-doubled = sheet-doubled limits enough p (digits p k l) k l v (digits-make k l v) k-fits l-fits
 
   -- there are at most two of the additions for each bit, and 32
   pub written-few : writtenAdditions p k l ≤ 2 * bits limits + 32
-  unfolding writtenAdditions
   written-few = sheet-few limits enough p (digits p k l) k l v (digits-make k l v) k-fits l-fits
 
   -- its digits have at most one place more than the bits

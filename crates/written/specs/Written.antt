@@ -108,17 +108,17 @@ sheetOf p cs k l = spell (linesOf p cs k l)
 -- ── the written sheet: that of the digits which the plan takes for k and l ──────────────────
 
 -- its lines
-unfoldable pub writtenLines : Plan → ℤ → ℤ → List Line
+abbrev pub writtenLines : Plan → ℤ → ℤ → List Line
 writtenLines p k l = linesOf p (digits p k l) k l
 
 -- its additions
-unfoldable pub writtenAdditions : Plan → ℤ → ℤ → ℕ
+abbrev pub writtenAdditions : Plan → ℤ → ℤ → ℕ
 writtenAdditions p k l = additionsOf p (digits p k l) k l
 
 -- its doublings
-unfoldable pub writtenDoublings : Plan → ℤ → ℤ → ℕ
+abbrev pub writtenDoublings : Plan → ℤ → ℤ → ℕ
 writtenDoublings p k l = doublingsOf p (digits p k l) k l
 
 -- its bytes
-unfoldable pub written : Plan → ℤ → ℤ → List ℕ
+abbrev pub written : Plan → ℤ → ℤ → List ℕ
 written p k l = sheetOf p (digits p k l) k l

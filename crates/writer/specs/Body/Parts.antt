@@ -6,10 +6,11 @@ use Prim.Native.Nat.{ℕ, zero, suc, _+_, _/_, _%_, _^_, _≤_, _<_}
 use lib.IntN.{ℤ, pos, natAbs}
 use lib.ListN.{length, set, getD}
 use lib.Seq.{sets}
+use Rattle.digits.specs.Buffer.{columnsBelow}
 use Rattle.digits.specs.Byte.{signed}
 use Rattle.digits.specs.declared.limits.Limits.{Limits}
 use Rattle.digits.specs.Limits.{gateway, bits}
-use Rattle.digits.specs.Two.{Column, blankColumn}
+use Rattle.digits.specs.Two.{Column}
 use Rattle.sheet.specs.declared.Plan.{Plan}
 use Rattle.sheet.specs.Digits.{weight}
 use Rattle.sheet.specs.Line.{Header, table}
@@ -17,8 +18,9 @@ use Rattle.sheet.specs.Numeral.{figure, numeral}
 use Rattle.sheet.specs.Plan.{Point, point, stored, odds, multiples}
 use Rattle.sheet.specs.Spelling.{comma, lineFeed, scalar, digit, kind, spell}
 use Rattle.written.specs.Enough.{Enough}
+use Rattle.written.specs.Makes.{Makes}
 use Rattle.written.specs.Valid.{Valid}
-use Rattle.written.specs.Written.{digits, written}
+use Rattle.written.specs.Written.{sheetOf}
 
 -- the bytes were put at a place, and `next` is the place behind them
 pub record Put (before after : List ℕ) (at next : ℕ) (bytes : List ℕ) : Type 0 where
@@ -91,10 +93,6 @@ scalarsOf k l = scalar k ++ comma ∷ (scalar l ++ lineFeed ∷ [])
 unfoldable pub headerBytes : Header → List ℕ
 headerBytes h = lettersOf (kind (h .kind)) ++ (decimalsOf (h .m1) (h .m2) (h .slots) (h .additions) (h .doublings) ++ scalarsOf (h .k) (h .l))
 
--- two rows of bytes hold columns, and zeros above them
-pub record Holds (p q : List ℕ) (cs : List Column) : Type 0 where
-  pub columns : (i : ℕ) → columnAt p q i ≡ getD cs i blankColumn
-
 -- a number that the widest scalar can have
 unfoldable pub Bounded : ℤ → Type 0
 Bounded z = natAbs z < 2 ^ bits gateway
@@ -106,15 +104,14 @@ pub record Served (limits : Limits) (p-places q-places : ℕ) : Type 0 where
   pub p-room : bits limits + 1 ≤ p-places
   pub q-room : bits limits + 1 ≤ q-places
 
--- all that the writer needs: a valid plan, scalars that are not too wide, the rows that hold their digits, how many places these have, what
--- the plan counts of them, and room for the sheet
+-- all that the writer needs: a valid plan, scalars that are not too wide, two rows with so many places whose columns make the scalars, what
+-- the plan counts of these, and room for their sheet
 pub record Ready (plan : Plan) (k l : ℤ) (p q : List ℕ) (places counted : ℕ) (out : List ℕ) : Type 0 where
   pub valid : Valid plan
   pub k-bounded : Bounded k
   pub l-bounded : Bounded l
-  pub held : Holds p q (digits plan k l)
-  pub long : places ≡ length (digits plan k l)
   pub p-long : places ≤ length p
   pub q-long : places ≤ length q
-  pub heavy : counted ≡ weight plan (digits plan k l)
-  pub room : length (written plan k l) ≤ length out
+  pub makes : Makes plan k l (columnsBelow places p q)
+  pub heavy : counted ≡ weight plan (columnsBelow places p q)
+  pub room : length (sheetOf plan (columnsBelow places p q) k l) ≤ length out

@@ -1,5 +1,5 @@
 -- What the calls for a sheet answer and leave keeps the promise under limits that are enough, whatever was asked, and the answer's number is that of the first question
--- missed. From the laws of written sheets.
+-- missed; for plan I from any columns that make the scalars. From the laws of the sheet of columns.
 use mathlib.Core.Path.{_≡_, refl, sym, subst}
 use mathlib.Core.Bool.{Bool, true, false, _&&_, cond}
 use mathlib.Core.List.{List}
@@ -13,15 +13,18 @@ use Rattle.digits.specs.declared.limits.Limits.{Limits}
 use Rattle.digits.specs.Limits.{bits}
 use Rattle.digits.specs.Row.{isWindow}
 use Rattle.digits.specs.Scalar.{Bytes, signedScalar, sized}
+use Rattle.digits.specs.Two.{Column}
 use Rattle.sheet.specs.declared.Plan.{Plan}
 use Rattle.sheet.specs.declared.Plan.the-variants.{J, I}
 use Rattle.written.specs.Enough.{Enough}
-use Rattle.written.specs.Promise.{written-accepted, written-slots, written-counted}
+use Rattle.written.specs.Makes.{Makes}
+use Rattle.written.specs.Promise.{sheet-accepted, sheet-slots, sheet-counted}
 use Rattle.written.specs.Valid.{Valid, forJ}
-use Rattle.written.specs.Written.{written}
+use Rattle.written.specs.Written.{digits, sheetOf}
+use Rattle.written.specs.Written.Columns.{digits-make}
 use Rattle.writer.specs.declared.answer.Sheet.{Sheet}
 use Rattle.writer.specs.declared.answer.Sheet.the-variants.{BadScalar, BadWindow, NoRoom}
-use Rattle.writer.specs.Call.{number, roomy, wrote, left, Promised, SheetPromised, jQuestion, jAnswer, jBuffer, iQuestion, iAnswer, iBuffer}
+use Rattle.writer.specs.Call.{number, roomy, wroteColumns, wrote, left, Promised, SheetPromised, jQuestion, jAnswer, jBuffer, iQuestion, columnsAnswer, columnsBuffer, iAnswer, iBuffer}
 use Rattle.writer.specs.Call.Met.{windows-valid}
 
 module _ (limits : Limits) (enough : Enough limits) where
@@ -29,21 +32,21 @@ module _ (limits : Limits) (enough : Enough limits) where
   abbrev Small : ℤ → ℤ → Type 0
   Small k l = (natAbs k < 2 ^ bits limits) × (natAbs l < 2 ^ bits limits)
 
-  module _ (p : Plan) (k l : ℤ) (buffer : List ℕ) where
+  module _ (p : Plan) (cs : List Column) (k l : ℤ) (buffer : List ℕ) where
     -- the answer by room alone
     roomed : Bool → Sheet
-    roomed c = cond c (wrote p k l) NoRoom
+    roomed c = cond c (wroteColumns p cs k l) NoRoom
 
-    room-promised : (c : Bool) → Valid p → Small k l → SheetPromised limits p k l (roomed c) (left (roomed c) (written p k l) buffer)
+    room-promised : (c : Bool) → Valid p → Makes p k l cs → Small k l → SheetPromised limits p k l (roomed c) (left (roomed c) (sheetOf p cs k l) buffer)
     unfolding roomed
-    room-promised true v (hk, hl) =
-        subst (Promised limits p k l _) (sym (take-append-seam (written p k l) (drop (length (written p k l)) buffer)))
+    room-promised true v makes (hk, hl) =
+        subst (Promised limits p k l _) (sym (take-append-seam (sheetOf p cs k l) (drop (length (sheetOf p cs k l)) buffer)))
         (record {
-          accepted = written-accepted limits enough p k l v hk hl;
-          additions-are = written-counted limits enough p k l v hk hl;
-          slots-are = written-slots limits enough p k l v hk hl;
+          accepted = sheet-accepted limits enough p cs k l v makes hk hl;
+          additions-are = sheet-counted limits enough p cs k l v makes hk hl;
+          slots-are = sheet-slots limits enough p cs k l v makes hk hl;
         })
-    room-promised false v h = tt
+    room-promised false v makes h = tt
 
   module _ (k : List ℕ) (k-sign : ℕ) (l : List ℕ) (l-sign : ℕ) (buffer : List ℕ) (k-bytes : Bytes k) (l-bytes : Bytes l) where
     -- the two signed scalars
@@ -63,26 +66,35 @@ module _ (limits : Limits) (enough : Enough limits) where
     unfolding jAnswer jBuffer roomed
     j-promised = go (sized limits k && sized limits l) small
       where
-        answer : Bool → Sheet
-        answer a = cond a (roomed J x y buffer (roomy limits (length buffer))) BadScalar
+        cs : List Column
+        cs = digits J x y
 
-        go : (a : Bool) → (a ≡ true → Small x y) → SheetPromised limits J x y (answer a) (left (answer a) (written J x y) buffer)
-        go true h = room-promised J x y buffer (roomy limits (length buffer)) forJ (h refl)
+        answer : Bool → Sheet
+        answer a = cond a (roomed J cs x y buffer (roomy limits (length buffer))) BadScalar
+
+        go : (a : Bool) → (a ≡ true → Small x y) → SheetPromised limits J x y (answer a) (left (answer a) (sheetOf J cs x y) buffer)
+        go true h = room-promised J cs x y buffer (roomy limits (length buffer)) forJ (digits-make x y forJ) (h refl)
         go false h = tt
 
-    -- plan I
-    pub i-promised : (m1 m2 : ℕ) → SheetPromised limits (I m1 m2) x y (iAnswer limits k k-sign l l-sign m1 m2 (length buffer)) (iBuffer limits k k-sign l l-sign m1 m2 buffer)
-    unfolding iAnswer iBuffer roomed
-    i-promised m1 m2 = go (sized limits k && sized limits l) (isWindow m1 && isWindow m2) small (windows-valid m1 m2)
+    -- plan I, from columns that make the scalars where the windows are good ones
+    pub columns-promised : (m1 m2 : ℕ) (cs : List Column) → ((isWindow m1 && isWindow m2) ≡ true → Makes (I m1 m2) x y cs)
+        → SheetPromised limits (I m1 m2) x y (columnsAnswer limits k k-sign l l-sign m1 m2 cs (length buffer)) (columnsBuffer limits k k-sign l l-sign m1 m2 cs buffer)
+    unfolding roomed
+    columns-promised m1 m2 cs makes = go (sized limits k && sized limits l) (isWindow m1 && isWindow m2) small (windows-valid m1 m2) makes
       where
         answer : Bool → Bool → Sheet
-        answer a b = cond a (cond b (roomed (I m1 m2) x y buffer (roomy limits (length buffer))) BadWindow) BadScalar
+        answer a b = cond a (cond b (roomed (I m1 m2) cs x y buffer (roomy limits (length buffer))) BadWindow) BadScalar
 
-        go : (a b : Bool) → (a ≡ true → Small x y) → (b ≡ true → Valid (I m1 m2))
-            → SheetPromised limits (I m1 m2) x y (answer a b) (left (answer a b) (written (I m1 m2) x y) buffer)
-        go true true h v = room-promised (I m1 m2) x y buffer (roomy limits (length buffer)) (v refl) (h refl)
-        go true false h v = tt
-        go false b h v = tt
+        go : (a b : Bool) → (a ≡ true → Small x y) → (b ≡ true → Valid (I m1 m2)) → (b ≡ true → Makes (I m1 m2) x y cs)
+            → SheetPromised limits (I m1 m2) x y (answer a b) (left (answer a b) (sheetOf (I m1 m2) cs x y) buffer)
+        go true true h v makes = room-promised (I m1 m2) cs x y buffer (roomy limits (length buffer)) (v refl) (makes refl) (h refl)
+        go true false h v makes = tt
+        go false b h v makes = tt
+
+    -- from the plan's digits
+    pub i-promised : (m1 m2 : ℕ) → SheetPromised limits (I m1 m2) x y (iAnswer limits k k-sign l l-sign m1 m2 (length buffer)) (iBuffer limits k k-sign l l-sign m1 m2 buffer)
+    unfolding iAnswer iBuffer
+    i-promised m1 m2 = columns-promised m1 m2 (digits (I m1 m2) x y) (λ e. digits-make x y (windows-valid m1 m2 e))
 
 module _ (k : List ℕ) (k-sign : ℕ) (l : List ℕ) (l-sign : ℕ) where
   -- the numbers
@@ -96,15 +108,19 @@ module _ (k : List ℕ) (k-sign : ℕ) (l : List ℕ) (l-sign : ℕ) where
       go true false c = refl
       go false b c = refl
 
-  pub i-question : (limits : Limits) (m1 m2 room : ℕ) → number (iAnswer limits k k-sign l l-sign m1 m2 room) ≡ iQuestion limits k l m1 m2 room
-  unfolding iAnswer
-  i-question limits m1 m2 room = go (sized limits k) (sized limits l) (isWindow m1) (isWindow m2) (roomy limits room)
+  pub columns-question : (limits : Limits) (m1 m2 : ℕ) (cs : List Column) (room : ℕ)
+      → number (columnsAnswer limits k k-sign l l-sign m1 m2 cs room) ≡ iQuestion limits k l m1 m2 room
+  columns-question limits m1 m2 cs room = go (sized limits k) (sized limits l) (isWindow m1) (isWindow m2) (roomy limits room)
     where
       go : (a b c d e : Bool)
-          → number (cond (a && b) (cond (c && d) (cond e (wrote (I m1 m2) (signedScalar k k-sign) (signedScalar l l-sign)) NoRoom) BadWindow) BadScalar) ≡ cond a (cond b (cond c (cond d (cond e 0 3) 2) 2) 1) 1
+          → number (cond (a && b) (cond (c && d) (cond e (wroteColumns (I m1 m2) cs (signedScalar k k-sign) (signedScalar l l-sign)) NoRoom) BadWindow) BadScalar) ≡ cond a (cond b (cond c (cond d (cond e 0 3) 2) 2) 1) 1
       go true true true true true = refl
       go true true true true false = refl
       go true true true false e = refl
       go true true false d e = refl
       go true false c d e = refl
       go false b c d e = refl
+
+  pub i-question : (limits : Limits) (m1 m2 room : ℕ) → number (iAnswer limits k k-sign l l-sign m1 m2 room) ≡ iQuestion limits k l m1 m2 room
+  unfolding iAnswer
+  i-question limits m1 m2 room = columns-question limits m1 m2 (digits (I m1 m2) (signedScalar k k-sign) (signedScalar l l-sign)) room

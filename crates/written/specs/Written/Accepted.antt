@@ -220,7 +220,6 @@ module _ (p : Plan) (cs : List Column) (k l : ℤ) where
 -- the signs of the scalars change neither the additions nor the doublings
 pub written-signs : (p : Plan) (k l : ℤ) → Valid p
     → (writtenAdditions p k l ≡ writtenAdditions p (pos (natAbs k)) (pos (natAbs l))) × (writtenDoublings p k l ≡ writtenDoublings p (pos (natAbs k)) (pos (natAbs l)))
-unfolding writtenAdditions writtenDoublings
 written-signs p k l v =
     let x : ℤ = pos (natAbs k) in
     let y : ℤ = pos (natAbs l) in

@@ -2,7 +2,11 @@
 use mathlib.Core.Path.{sym, subst}
 use borrow.Author.Needs.{needs}
 use Rattle.digits.specs.declared.limits.Limits.{Limits}
+use Rattle.digits.specs.Scalar.{signedScalar}
+use Rattle.sheet.specs.declared.Plan.the-variants.{I}
+use Rattle.written.specs.Written.{digits}
 use Rattle.writer.specs.Body.Parts.{Served}
+use Rattle.writer.specs.Call.{iAnswer, iBuffer}
 use Rattle.writer.proofs.PlanAnswers.{ReturnedI, gateway-served}
 use Rattle.writer.proofs.plans.gateway_plan_i.Statement.{statement}
 use Rattle.writer.proofs.plans.gateway_plan_i.Tie as tie
@@ -24,11 +28,12 @@ same-length : tie.Need-same-length
 same-length c = search needs
 
 returns : tie.Need-returns
+unfolding iAnswer iBuffer
 returns c =
     let w = c .before .before .before .before in
     let l = w .before .before .before .before in
     let a = l .before .before .before .before .args in
-    subst (λ (limits : Limits). ReturnedI limits (a .k .now) (a .k-sign) (a .l .now) (a .l-sign) (a .sheet .now) (a .m1) (a .m2) (w .plan-i-within .result) (w .plan-i-within .last .1 .1 .1 .1 .1 .1 .1 .0)) (l .gateway .ensures)
+    subst (λ (limits : Limits). ReturnedI limits (a .k .now) (a .k-sign) (a .l .now) (a .l-sign) (a .sheet .now) (a .m1) (a .m2) (digits (I (a .m1) (a .m2)) (signedScalar (a .k .now) (a .k-sign)) (signedScalar (a .l .now) (a .l-sign))) (w .plan-i-within .result) (w .plan-i-within .last .1 .1 .1 .1 .1 .1 .1 .0)) (l .gateway .ensures)
     (w .plan-i-within .ensures)
 
 pub gateway-plan-i-spec : {M : Type 1} → statement M

@@ -1,8 +1,9 @@
 -- `plan_j_within` meets its contract: each return is one line of PlanAnswers.
 use mathlib.Core.Path.{sym, _∙_}
 use native.Mathlib.Omega.{arith}
-use Rattle.digits.specs.Scalar.{Bytes}
+use Rattle.digits.specs.Scalar.{Bytes, signedScalar}
 use Rattle.written.specs.Valid.{forJ}
+use Rattle.written.specs.Written.Columns.{digits-make}
 use Rattle.writer.proofs.PlanAnswers.{wide, rooms, fits, j-scalar, j-room, j-written}
 use borrow.Author.Needs.{needs}
 use Rattle.writer.proofs.plans.plan_j_within.Statement.{statement}
@@ -34,7 +35,7 @@ write-j-requires c κs =
     let a = asked s .args in
     let sizes = sym (s .are-scalars .ensures) ∙ c .before .before .before .before .before .if1 .taken in
     let served = asked s .pre in
-    (wide served (a .k .now) (a .l .now) sizes, (rooms served (a .k .now) (a .l .now) sizes, fits served (a .k .now) (a .l .now) sizes forJ (k-bytes s) (l-bytes s) (a .k-sign) (a .l-sign) (c .before .before .before .if2 .left)))
+    (wide served (a .k .now) (a .l .now) sizes, (rooms served (a .k .now) (a .l .now) sizes, fits served (a .k .now) (a .l .now) sizes (a .k-sign) (a .l-sign) forJ (digits-make (signedScalar (a .k .now) (a .k-sign)) (signedScalar (a .l .now) (a .l-sign)) forJ) (k-bytes s) (l-bytes s) (c .before .before .before .if2 .left)))
 
 same-length : tie.Need-same-length
 same-length c = search needs

@@ -1,15 +1,21 @@
--- `write_i` meets its contract: after the two row calls the rows hold the digits (DigitRows).
+-- `write_i` meets its contract: after the two row calls the digits stand in the rows (DigitRows).
 use mathlib.Core.Path.{ap, ap₂, _∙_}
 use mathlib.Core.Bool.{and-eq-true-iff}
+use lib.IntN.{ℤ}
 use Prim.Native.Nat.{ℕ, _+_, max}
 use native.Mathlib.Omega.{arith}
 use lib.ListN.{length}
-use Rattle.digits.specs.Scalar.{Bytes, sized}
+use Rattle.digits.specs.Scalar.{Bytes, signedScalar, sized}
 use Rattle.digits.specs.Limits.{gateway}
 use Rattle.recode.specs.Call.{weightWritten}
 use Rattle.recode.specs.Call.Short.{row-short}
 use Rattle.writer.specs.Call.Met.{windows-valid}
-use Rattle.writer.proofs.DigitRows.{in-bounds, few-places, rows-hold, rows-long, rows-counts}
+use Rattle.sheet.specs.declared.Plan.the-variants.{I}
+use Rattle.written.specs.Makes.{Makes}
+use Rattle.written.specs.Valid.{Valid}
+use Rattle.written.specs.Written.{digits}
+use Rattle.written.specs.Written.Columns.{digits-make}
+use Rattle.writer.proofs.DigitRows.{in-bounds, few-places, Standing, ready, standing-written, row-calls}
 use borrow.Author.Needs.{needs}
 use Rattle.writer.proofs.plans.write_i.Statement.{statement}
 use Rattle.writer.proofs.plans.write_i.Tie as tie
@@ -35,7 +41,7 @@ weight-requires c κs = search needs
 weight-requires-2 : tie.Need-weight-requires-2
 weight-requires-2 c κs = search needs
 
--- what was asked, that both scalars are bytes, and the two calls
+-- what was asked, that both scalars are bytes, the two calls, and the digits after them
 module _ (c : tie.After-weight2) where
   abbrev asked : tie.Start
   asked = c .before .before .before .before .before .before .before .before .before .before .before .before .before .before .before .before .before .before
@@ -52,6 +58,29 @@ module _ (c : tie.After-weight2) where
   abbrev second : tie.After-gateway-row2
   second = c .before .before .before .before .before .before .before
 
+  abbrev x : ℤ
+  x = signedScalar (asked .args .k .now) (asked .args .k-sign)
+
+  abbrev y : ℤ
+  y = signedScalar (asked .args .l .now) (asked .args .l-sign)
+
+  valid : Valid (I (asked .args .m1) (asked .args .m2))
+  valid = windows-valid (asked .args .m1) (asked .args .m2) (asked .pre .1 .0)
+
+  makes : Makes (I (asked .args .m1) (asked .args .m2)) x y (digits (I (asked .args .m1) (asked .args .m2)) x y)
+  makes = digits-make x y valid
+
+  standing : Standing (I (asked .args .m1) (asked .args .m2)) (first .gateway-row .last .1 .1 .1 .0) (second .gateway-row2 .last .1 .1 .1 .0) (digits (I (asked .args .m1) (asked .args .m2)) x y) (c .before .before .larger .result) (c .before .weight .result + c .weight2 .result)
+  standing =
+      let a = asked .args in
+      let r = first .gateway-row .ensures in
+      let t = second .gateway-row2 .ensures in
+      row-calls (a .k .now) (a .k-sign) (a .l .now) (a .l-sign) (a .p .now) (a .q .now) (a .m1) (a .m2) (asked .pre .0) (asked .pre .1 .0) (asked .pre .1 .1 .0)
+      (few-places (a .k .now) (a .k-sign) (a .l .now) (a .l-sign) k-bytes l-bytes makes)
+      (r .0) (t .0) (r .1 .0) (t .1 .0)
+      (c .before .before .larger .ensures ∙ ap₂ max (c .before .before .before .before .places .ensures) (c .before .before .before .places2 .ensures))
+      (ap₂ (λ (u v : ℕ). u + v) (c .before .weight .ensures) (c .weight2 .ensures))
+
 add-weight : tie.Need-add-weight
 add-weight c =
     let a = asked c .args in
@@ -64,31 +93,8 @@ write-sheet-requires c κs =
     let w = c .before .before .before in
     let s = asked w in
     let a = s .args in
-    let k = a .k .now in
-    let l = a .l .now in
-    let z = and-eq-true-iff (sized gateway k) (sized gateway l) .0 (s .pre .0) in
-    let windows = s .pre .1 .0 in
-    let room = s .pre .1 .1 .0 in
-    let r = first w .gateway-row .ensures in
-    let t = second w .gateway-row2 .ensures in
-    let valid = windows-valid (a .m1) (a .m2) windows in
-    let n =
-    rows-counts k (a .k-sign) l (a .l-sign) (a .m1) (a .m2) (length (a .p .now)) (length (a .q .now)) (s .pre .0) windows room (r .0) (t .0)
-    (w .before .before .larger .ensures ∙ ap₂ max (w .before .before .before .before .places .ensures) (w .before .before .before .places2 .ensures))
-    (ap₂ (λ (x y : ℕ). x + y) (w .before .weight .ensures) (w .weight2 .ensures))
-    in
-    let long = rows-long k (a .k-sign) l (a .l-sign) (a .p .now) (a .q .now) (a .m1) (a .m2) (s .pre .0) windows room (r .1 .0) (t .1 .0) (few-places valid k (a .k-sign) l (a .l-sign) (k-bytes w) (l-bytes w) (n .0)) in
-    record {
-      valid = valid;
-      k-bounded = in-bounds k (a .k-sign) (k-bytes w) (z .0);
-      l-bounded = in-bounds l (a .l-sign) (l-bytes w) (z .1);
-      held = rows-hold k (a .k-sign) l (a .l-sign) (a .p .now) (a .q .now) (a .m1) (a .m2) (s .pre .0) windows room (r .1 .0) (t .1 .0);
-      long = n .0;
-      p-long = long .0;
-      q-long = long .1;
-      heavy = n .1;
-      room = s .pre .1 .1 .1;
-    }
+    let z = and-eq-true-iff (sized gateway (a .k .now)) (sized gateway (a .l .now)) .0 (s .pre .0) in
+    ready (x w) (y w) (standing w) (valid w) (in-bounds (a .k .now) (a .k-sign) (k-bytes w) (z .0)) (in-bounds (a .l .now) (a .l-sign) (l-bytes w) (z .1)) (makes w) (s .pre .1 .1 .1)
 
 same-length : tie.Need-same-length
 same-length c = search needs
@@ -100,7 +106,9 @@ same-length-3 : tie.Need-same-length-3
 same-length-3 c = search needs
 
 returns : tie.Need-returns
-returns c = search needs
+returns c =
+    let w = c .before .before .before .before .before .before in
+    standing-written (x w) (y w) (standing w) (asked w .args .sheet .now) (c .before .before .write-sheet .ensures)
 
 pub write-i-spec : {M : Type 1} → statement M
 write-i-spec =

@@ -1,13 +1,16 @@
--- `write_sheet` meets its contract: the header, the T lines, the steps and E, one behind another, are the sheet (SheetBytes).
+-- `write_sheet` meets its contract: the header, the T lines, the steps and E, one behind another, are the sheet of the columns (SheetBytes).
 use mathlib.Core.Path.{_≡_, sym, ap₂, subst, _∙_}
 use mathlib.Core.List.{List}
+use lib.IntN.{ℤ}
 use Prim.Native.Nat.{ℕ, _+_, _≤_}
 use native.Mathlib.Nat.{zero-add}
 use native.Mathlib.Omega.{arith}
 use lib.ListN.{length}
+use Rattle.digits.specs.Buffer.{columnsBelow}
 use Rattle.digits.specs.Scalar.{signedScalar}
+use Rattle.digits.specs.Two.{Column}
 use Rattle.written.specs.Written.Accepted.{few-doublings}
-use Rattle.written.specs.Written.{written, writtenAdditions}
+use Rattle.written.specs.Written.{additionsOf, sheetOf}
 use Rattle.writer.specs.declared.answer.Sheet.the-variants.{Written}
 use Rattle.writer.specs.Body.Parts.{Room}
 use Rattle.writer.proofs.SheetBytes.{partsOf, few-places, few-counted, top-full, additions-are, doublings-are, sheet-parts}
@@ -16,38 +19,45 @@ use borrow.Author.Needs.{needs}
 use Rattle.writer.proofs.write.write_sheet.Statement.{statement}
 use Rattle.writer.proofs.write.write_sheet.Tie as tie
 
--- the parts of the sheet, and their room
+-- what was asked, the sheet, its parts, and their room
 module _ (c : tie.After-less-one2) where
+  abbrev asked : tie.Start
+  asked = c .before .before .before .before .before .before .before .before .before
+
+  abbrev k : ℤ
+  k = signedScalar (asked .args .k .now) (asked .args .k-sign)
+
+  abbrev l : ℤ
+  l = signedScalar (asked .args .l .now) (asked .args .l-sign)
+
+  abbrev cs : List Column
+  cs = columnsBelow (asked .args .places) (asked .args .p .now) (asked .args .q .now)
+
   bytes : List ℕ
-  bytes = let a = c .before .before .before .before .before .before .before .before .before .args in written (a .plan) (signedScalar (a .k .now) (a .k-sign)) (signedScalar (a .l .now) (a .l-sign))
+  bytes = sheetOf (asked .args .plan) cs k l
 
   parts : List ℕ
   parts =
-      let a = c .before .before .before .before .before .before .before .before .before .args in
-      partsOf (a .plan) (c .before .before .before .table-additions .result + c .before .before .less-one .result) (c .before .table-doublings .result + c .less-one2 .result)
-      (signedScalar (a .k .now) (a .k-sign)) (signedScalar (a .l .now) (a .l-sign)) (a .p .now) (a .q .now) (a .places)
+      partsOf (asked .args .plan) (c .before .before .before .table-additions .result + c .before .before .less-one .result) (c .before .table-doublings .result + c .less-one2 .result)
+      k l (asked .args .p .now) (asked .args .q .now) (asked .args .places)
 
-  additions : c .before .before .before .table-additions .result + c .before .before .less-one .result ≡ writtenAdditions (c .before .before .before .before .before .before .before .before .before .args .plan) (signedScalar (c .before .before .before .before .before .before .before .before .before .args .k .now) (c .before .before .before .before .before .before .before .before .before .args .k-sign)) (signedScalar (c .before .before .before .before .before .before .before .before .before .args .l .now) (c .before .before .before .before .before .before .before .before .before .args .l-sign))
+  additions : c .before .before .before .table-additions .result + c .before .before .less-one .result ≡ additionsOf (asked .args .plan) cs k l
   additions =
-      let a = c .before .before .before .before .before .before .before .before .before in
-      additions-are (a .pre) (c .before .before .before .table-additions .result) (c .before .before .less-one .result)
+      additions-are (asked .pre) (c .before .before .before .table-additions .result) (c .before .before .less-one .result)
       (c .before .before .before .table-additions .ensures) (c .before .before .less-one .ensures)
 
   same : bytes ≡ parts
   unfolding bytes parts
   same =
-      let a = c .before .before .before .before .before .before .before .before .before in
-      sheet-parts (a .pre) _ _ additions
-      (doublings-are (a .pre) (c .before .table-doublings .result) (c .less-one2 .result) (c .before .table-doublings .ensures) (c .less-one2 .ensures))
+      sheet-parts (asked .pre) _ _ additions
+      (doublings-are (asked .pre) (c .before .table-doublings .result) (c .less-one2 .result) (c .before .table-doublings .ensures) (c .less-one2 .ensures))
 
-  fits : length bytes ≤ length (c .before .before .before .before .before .before .before .before .before .args .out .now)
+  fits : length bytes ≤ length (asked .args .out .now)
   unfolding bytes
-  fits =
-      let a = c .before .before .before .before .before .before .before .before .before in
-      a .pre .room
+  fits = asked .pre .room
 
-  room : Room (c .before .before .before .before .before .before .before .before .before .args .out .now) 0 parts
-  room = subst (Room (c .before .before .before .before .before .before .before .before .before .args .out .now) 0) same (record { fits = omega (arith, fits) })
+  room : Room (asked .args .out .now) 0 parts
+  room = subst (Room (asked .args .out .now) 0) same (record { fits = omega (arith, fits) })
 
 table-additions-requires : tie.Need-table-additions-requires
 table-additions-requires c κs = search needs
