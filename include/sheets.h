@@ -51,6 +51,12 @@ extern "C" {
 uint64_t sheets_row(const uint8_t *scalar, size_t n, uint32_t sign, uint32_t m, uint8_t *digits, size_t places);
 
 /*
+ * The row of a scalar for the window m as it is found from the top down, while sheets_row finds its own from place 0 up. The two have the
+ * same value and the same weight, but their digits, and so their lengths, may differ. Questions, answer and buffer are those of sheets_row.
+ */
+uint64_t sheets_row_down(const uint8_t *scalar, size_t n, uint32_t sign, uint32_t m, uint8_t *digits, size_t places);
+
+/*
  * The joint sparse form of k and l, a row into each buffer. Questions 1, 3. The length is the number of columns, at most 529, and the
  * weight the number of columns of which a digit is not 0; in both buffers the places above the length hold 0.
  */
@@ -69,13 +75,17 @@ uint64_t sheets_joint_codes(const uint8_t *k, size_t kn, uint32_t ks, const uint
 
 /*
  * The sheet of plan J. Questions 1, 3. The length is the sheet's, in bytes, at most 16,384, and the additions are those that its header
- * states; the bytes behind it stay as lent. So too for the next two calls.
+ * states; the bytes behind it stay as lent. So too for the next three calls.
  */
 uint64_t sheets_plan_j(const uint8_t *k, size_t kn, uint32_t ks, const uint8_t *l, size_t ln, uint32_t ls, uint8_t *sheet, size_t room);
 
 /* The sheet of plan I with the windows m1 for P and m2 for Q. Questions 1, 2, 3. */
 uint64_t sheets_plan_i(const uint8_t *k, size_t kn, uint32_t ks, const uint8_t *l, size_t ln, uint32_t ls, uint32_t m1, uint32_t m2,
                        uint8_t *sheet, size_t room);
+
+/* The same from rows from the top down: as many additions, though the steps may differ. A cheapest sheet has rows of the other kind. */
+uint64_t sheets_plan_i_down(const uint8_t *k, size_t kn, uint32_t ks, const uint8_t *l, size_t ln, uint32_t ls, uint32_t m1, uint32_t m2,
+                            uint8_t *sheet, size_t room);
 
 /*
  * The cheapest sheet over plan J and all plans I that need no more slots than the limit: fewest additions; then fewest doublings; then fewest
@@ -113,6 +123,7 @@ uint64_t sheets_read(const uint8_t *sheet, size_t n);
  * sheet that the card accepts is accepted.
  */
 uint64_t sheets_gateway_row(const uint8_t *scalar, size_t n, uint32_t sign, uint32_t m, uint8_t *digits, size_t places);
+uint64_t sheets_gateway_row_down(const uint8_t *scalar, size_t n, uint32_t sign, uint32_t m, uint8_t *digits, size_t places);
 uint64_t sheets_gateway_joint(const uint8_t *k, size_t kn, uint32_t ks, const uint8_t *l, size_t ln, uint32_t ls, uint8_t *k_digits,
                               size_t k_places, uint8_t *l_digits, size_t l_places);
 uint64_t sheets_gateway_joint_codes(const uint8_t *k, size_t kn, uint32_t ks, const uint8_t *l, size_t ln, uint32_t ls, uint8_t *k_digits,
@@ -122,6 +133,8 @@ uint64_t sheets_gateway_plan_j(const uint8_t *k, size_t kn, uint32_t ks, const u
                                size_t room);
 uint64_t sheets_gateway_plan_i(const uint8_t *k, size_t kn, uint32_t ks, const uint8_t *l, size_t ln, uint32_t ls, uint32_t m1, uint32_t m2,
                                uint8_t *sheet, size_t room);
+uint64_t sheets_gateway_plan_i_down(const uint8_t *k, size_t kn, uint32_t ks, const uint8_t *l, size_t ln, uint32_t ls, uint32_t m1,
+                                    uint32_t m2, uint8_t *sheet, size_t room);
 uint64_t sheets_gateway_cheapest(const uint8_t *k, size_t kn, uint32_t ks, const uint8_t *l, size_t ln, uint32_t ls, uint32_t limit,
                                  uint8_t *sheet, size_t room);
 uint64_t sheets_gateway_read(const uint8_t *sheet, size_t n);

@@ -1,7 +1,8 @@
 /*
  * Calls every function of sheets.h with good and bad input, and checks the answers and every byte of the buffers: against the samples
  * of the scope document, and for other scalars by reading the digits back and counting those that are not 0; with every pair of signs.
- * All this by the card's calls and by the gateway's, each at its own limits; then both sets at the limits of either.
+ * All this by the card's calls and by the gateway's, each at its own limits; then both sets at the limits of either. What has to do with
+ * rows is done once more with rows from the top down.
  */
 #include "sheets.h"
 
@@ -10,7 +11,7 @@
 #include <stdlib.h>
 #include <string.h>
 
-/* ---- the two sets of calls ---- */
+/* ---- the sets of calls ---- */
 
 struct calls {
     const char *name;
@@ -26,17 +27,19 @@ struct calls {
     size_t sheet_bytes; /* of a sheet at most, and of its buffer at least */
     unsigned figures;   /* of a scalar in a header, at most */
     unsigned doublings; /* the D lines of a sheet, at most */
+    int down;           /* 1 where `row` and `plan_i` are the calls for rows from the top down, else 0 */
 };
 
-static const struct calls card = {
-    "card", sheets_row, sheets_joint, sheets_joint_codes, sheets_plan_j, sheets_plan_i, sheets_cheapest, sheets_read,
-    66, 16384, 132, 528,
-};
-static const struct calls gateway = {
-    "gateway", sheets_gateway_row, sheets_gateway_joint, sheets_gateway_joint_codes, sheets_gateway_plan_j, sheets_gateway_plan_i,
-    sheets_gateway_cheapest, sheets_gateway_read,
-    128, 32768, 256, 1024,
-};
+#define CARD(name, row, plan_i, down) \
+    {name, row, sheets_joint, sheets_joint_codes, sheets_plan_j, plan_i, sheets_cheapest, sheets_read, 66, 16384, 132, 528, down}
+#define GATEWAY(name, row, plan_i, down) \
+    {name, row, sheets_gateway_joint, sheets_gateway_joint_codes, sheets_gateway_plan_j, plan_i, sheets_gateway_cheapest, \
+     sheets_gateway_read, 128, 32768, 256, 1024, down}
+
+static const struct calls card = CARD("card", sheets_row, sheets_plan_i, 0);
+static const struct calls card_down = CARD("card, from the top down", sheets_row_down, sheets_plan_i_down, 1);
+static const struct calls gateway = GATEWAY("gateway", sheets_gateway_row, sheets_gateway_plan_i, 0);
+static const struct calls gateway_down = GATEWAY("gateway, from the top down", sheets_gateway_row_down, sheets_gateway_plan_i_down, 1);
 
 /* The set that is tried. */
 static const struct calls *by = &card;
@@ -185,7 +188,10 @@ static struct bytes minus(struct bytes scalar) { return with_sign(scalar, 1); }
 static const uint32_t signs[] = {0, 1, 2, 256, 65536, 2147483648u, 4294967295u};
 enum { SIGNS = sizeof signs / sizeof *signs };
 
-/* A longest scalar whose row for window 1 is as heavy as any: it has a digit that is not 0 at every second place, from place 0 to the last. */
+/*
+ * A longest scalar whose row for window 1 is as heavy as any: from the bottom up it has a digit that is not 0 at every second place, from
+ * place 0 to the last; from the top down at every second place from the last but one to place 3, and at places 2 and 0.
+ */
 static struct bytes heavy(void)
 {
     uint8_t all[MOST_BYTES];
@@ -378,19 +384,20 @@ static void row_refused(struct bytes scalar, uint32_t m, size_t places, uint32_t
 
 #define ROW_REFUSED(scalar, m, places, number) row_refused((scalar), (m), (places), (number), __LINE__)
 
-/* Rows with a digit that is not 0 at every second place. */
+/* Rows with a digit that is not 0 at about every second place. */
 static void heavy_rows(void)
 {
-    int8_t positive[MOST_PLACES], negative[MOST_PLACES];
+    int8_t positive[MOST_PLACES], negative[MOST_PLACES], down[MOST_PLACES];
     size_t n = by->bytes, i;
     for (i = 0; i < MOST_PLACES; i++) {
         positive[i] = i % 2 == 0 ? 0 : 1;
         negative[i] = i % 2 == 0 ? -1 : 0;
+        down[i] = i < 3 ? (int8_t)(i - 1) : positive[i];
     }
     negative[8 * n] = 1;
     row_is(filled(0xaa, n), 1, SHEETS_PLACES(n), 4 * n, positive, 8 * n, __LINE__);
     row_is(filled(0x55, n), 1, SHEETS_PLACES(n), 4 * n, positive + 1, 8 * n - 1, __LINE__);
-    row_is(heavy(), 1, SHEETS_PLACES(n), 4 * n + 1, negative, 8 * n + 1, __LINE__);
+    row_is(heavy(), 1, SHEETS_PLACES(n), 4 * n + 1, by->down ? down : negative, by->down ? 8 * n : 8 * n + 1, __LINE__);
 }
 
 /* With every sign the same answer, and the row with each digit negated or not; all that is not plus gives the same bytes. */
@@ -411,7 +418,7 @@ static void signed_row(struct bytes scalar, uint32_t m, int line)
     check(only_read(scalar), "the scalar is only read", line);
 }
 
-/* The samples with a minus; zero with one; small scalars and long ones with every sign; and refusals with every sign. */
+/* Zero, small scalars and long ones with every sign; and refusals with every sign. */
 static void negative_rows(void)
 {
     int8_t ones[MOST_PLACES] = {1}, none[1] = {0};
@@ -419,11 +426,6 @@ static void negative_rows(void)
     uint32_t m;
     size_t n = by->bytes, i;
 
-    ROW(minus(byte(7)), 5, 9, 2, 1, 0, 0, -1);
-    ROW(minus(byte(9)), 5, 9, 2, -1, 0, 0, -1);
-    ROW(minus(byte(9)), 7, 9, 2, 7, 0, 0, 0, -1);
-    ROW(minus(byte(33)), 31, 9, 2, 31, 0, 0, 0, 0, 0, -1);
-    ROW(minus(byte(53)), 3, 9, 3, 3, 0, 0, 1, 0, 0, -1);
     ones[8 * n] = -1;
     row_is(minus(filled(255, n)), 1, SHEETS_PLACES(n), 2, ones, 8 * n + 1, __LINE__);
     for (m = 1; m <= 31; m += 2) {
@@ -442,19 +444,53 @@ static void negative_rows(void)
     }
 }
 
+/* 22369, which source document 000 recodes. */
+static struct bytes printed(void) { return bytes_of((const uint8_t *)"\x57\x61", 2); }
+
+/* The samples, and with a minus. */
+static void row_samples(void)
+{
+    ROW(byte(9), 5, 9, 2, 1, 0, 0, 1);
+    ROW(byte(9), 7, 9, 2, -7, 0, 0, 0, 1);
+    ROW(byte(11), 1, 9, 3, -1, 0, -1, 0, 1);
+    ROW(byte(33), 31, 9, 2, -31, 0, 0, 0, 0, 0, 1);
+    ROW(byte(53), 3, 9, 3, -3, 0, 0, -1, 0, 0, 1);
+    ROW(printed(), 5, 17, 4, 1, 0, 0, 0, 0, -5, 0, 0, 0, 0, 0, -5, 0, 0, 0, 1);
+    ROW(minus(byte(9)), 5, 9, 2, -1, 0, 0, -1);
+    ROW(minus(byte(9)), 7, 9, 2, 7, 0, 0, 0, -1);
+    ROW(minus(byte(11)), 1, 9, 3, 1, 0, 1, 0, -1);
+    ROW(minus(byte(33)), 31, 9, 2, 31, 0, 0, 0, 0, 0, -1);
+    ROW(minus(byte(53)), 3, 9, 3, 3, 0, 0, 1, 0, 0, -1);
+}
+
+/* The same scalars from the top down. */
+static void row_down_samples(void)
+{
+    ROW(byte(9), 5, 9, 2, -1, 5);
+    ROW(byte(9), 7, 9, 2, -1, 5);
+    ROW(byte(11), 1, 9, 3, -1, 0, 1, 1);
+    ROW(byte(33), 31, 9, 2, -1, 17);
+    ROW(byte(53), 3, 9, 3, -1, 3, 0, 0, 3);
+    ROW(printed(), 5, 17, 4, 1, 0, 0, 0, 0, -5, 0, 0, 0, 0, 0, 1, 5);
+    ROW(minus(byte(11)), 1, 9, 3, 1, 0, -1, -1);
+    ROW(minus(printed()), 5, 17, 4, -1, 0, 0, 0, 0, 5, 0, 0, 0, 0, 0, -1, -5);
+}
+
 static void rows(void)
 {
     int8_t ones[MOST_PLACES] = {-1}, none[1] = {0};
     size_t most = by->bytes, n;
     uint32_t m;
 
-    /* the samples */
+    if (by->down)
+        row_down_samples();
+    else
+        row_samples();
+
+    /* what is the same from either end */
     row_is(byte(0), 1, 9, 0, none, 0, __LINE__);
     ROW(byte(7), 5, 9, 2, -1, 0, 0, 1);
-    ROW(byte(9), 5, 9, 2, 1, 0, 0, 1);
-    ROW(byte(9), 7, 9, 2, -7, 0, 0, 0, 1);
-    ROW(byte(33), 31, 9, 2, -31, 0, 0, 0, 0, 0, 1);
-    ROW(byte(53), 3, 9, 3, -3, 0, 0, -1, 0, 0, 1);
+    ROW(minus(byte(7)), 5, 9, 2, 1, 0, 0, -1);
     ones[8 * most] = 1;
     row_is(filled(255, most), 1, SHEETS_PLACES(most), 2, ones, 8 * most + 1, __LINE__);
     heavy_rows();
@@ -930,21 +966,32 @@ static const char thirteen_ten[] =
     "S,J,1,1,2,5,4,d,a\nT,1,1\nT,1,-1\nL,1,0\nD\nA,0,1\nD\nD\nA,-1,1\nD\nA,-1,0\nE\n";
 
 static const char nine[] = "S,I,5,1,3,3,4,9,0\nT,2,0\nT,3,0\nT,5,0\nL,1,0\nD\nD\nD\nA,1,0\nE\n";
+static const char nine_down[] = "S,I,5,1,3,3,2,9,0\nT,2,0\nT,3,0\nT,5,0\nL,5,0\nD\nA,-1,0\nE\n";
 
 /*
- * The most steps. Two heavy rows: a header with all figures, 12 bytes at the top place, a D line for each place below, 14 bytes at every
- * second one of these, and E. Then a heavy joint form; and a heavy row behind the table of the widest window.
+ * The most steps of plan I. Two heavy rows: a header with all figures, two steps at the top place, a D line for each place below, two steps
+ * at 4n of these, all of them -1 from the bottom up, and only that at place 0 from the top down; and E. Two steps are 12 bytes, and 14 with
+ * a minus. With both signs minus each minus turns, and the header has two bytes more. Then a heavy row behind the table of the widest window.
  */
-static void heavy_sheets(void)
+static void heavy_plan_i(void)
 {
-    size_t n = by->bytes, weight, places = two_of_three(&weight), header;
-    const char *begins = spelled("S,I,1,1,0,%u,%u,", (unsigned)(8 * n + 1), (unsigned)(8 * n));
-    header = strlen(begins) + 4 * n + 2;
-    written(sheet_begins(plan_i(1, 1), heavy(), heavy(), begins, __LINE__), header + 12 + 16 * n + 4 * n * 14 + 2, 8 * n + 1, __LINE__);
-    begins = spelled("S,J,1,1,2,%u,%u,", (unsigned)(weight + 1), (unsigned)(places - 1));
-    header_is(plan_j, repeated(0x24, 0x92, 0x49), repeated(0x49, 0x24, 0x92), weight + 1, begins, __LINE__);
-    begins = spelled("S,I,31,1,16,%u,%u,0,aaaa", (unsigned)(4 * n + 15), (unsigned)(8 * n + 1));
+    size_t n = by->bytes, doublings = 8 * n - (size_t)by->down, minuses = by->down ? 1 : 4 * n, additions = 8 * n + 1, bytes;
+    const char *begins = spelled("S,I,1,1,0,%u,%u,", (unsigned)additions, (unsigned)doublings);
+    bytes = strlen(begins) + 4 * n + 2 + 12 * (4 * n + 1) + 2 * doublings + 2;
+    written(sheet_begins(plan_i(1, 1), heavy(), heavy(), begins, __LINE__), bytes + 2 * minuses, additions, __LINE__);
+    begins = spelled("S,I,1,1,0,%u,%u,-", (unsigned)additions, (unsigned)doublings);
+    written(sheet_begins(plan_i(1, 1), minus(heavy()), minus(heavy()), begins, __LINE__), bytes + 2 + 2 * (4 * n + 1 - minuses), additions,
+            __LINE__);
+    begins = spelled("S,I,31,1,16,%u,%u,0,aaaa", (unsigned)(4 * n + 15), (unsigned)(doublings + 1));
     header_is(plan_i(31, 1), byte(0), heavy(), 4 * n + 15, begins, __LINE__);
+}
+
+/* The most steps of plan J. */
+static void heavy_plan_j(void)
+{
+    size_t weight, places = two_of_three(&weight);
+    const char *begins = spelled("S,J,1,1,2,%u,%u,", (unsigned)(weight + 1), (unsigned)(places - 1));
+    header_is(plan_j, repeated(0x24, 0x92, 0x49), repeated(0x49, 0x24, 0x92), weight + 1, begins, __LINE__);
 }
 
 /*
@@ -963,62 +1010,114 @@ static void signed_sheet(struct order o, uint8_t k, uint8_t l, size_t additions,
 static const char less_seven_two[] = "S,I,1,1,0,2,3,-7,2\nL,-1,0\nD\nD\nA,0,1\nD\nA,1,0\nE\n";
 static const char seven_less_two[] = "S,I,1,1,0,2,3,7,-2\nL,1,0\nD\nD\nA,0,-1\nD\nA,-1,0\nE\n";
 static const char less_seven_less_two[] = "S,I,1,1,0,2,3,-7,-2\nL,-1,0\nD\nD\nA,0,-1\nD\nA,1,0\nE\n";
+static const char *const seven_two_texts[] = {seven_two, less_seven_two, seven_less_two, less_seven_less_two};
 
-/* Sheets by each call, with every two signs; the longest scalars and zero with a minus; and refusals with every sign. */
+/* Sheets of plan J and cheapest ones with every two signs; zero with a minus; and refusals with every sign. */
 static void negative_sheets(void)
 {
-    static const char *const seven_two_texts[] = {seven_two, less_seven_two, seven_less_two, less_seven_less_two};
     static const char *const thirteen_ten_texts[] = {
         thirteen_ten,
         "S,J,1,1,2,5,4,-d,a\nT,1,1\nT,1,-1\nL,-1,0\nD\nA,0,1\nD\nD\nA,1,1\nD\nA,1,0\nE\n",
         "S,J,1,1,2,5,4,d,-a\nT,1,1\nT,1,-1\nL,1,0\nD\nA,0,-1\nD\nD\nA,-1,-1\nD\nA,-1,0\nE\n",
         "S,J,1,1,2,5,4,-d,-a\nT,1,1\nT,1,-1\nL,-1,0\nD\nA,0,-1\nD\nD\nA,1,-1\nD\nA,1,0\nE\n",
     };
-    static const char less_nine[] = "S,I,5,1,3,3,4,-9,0\nT,2,0\nT,3,0\nT,5,0\nL,-1,0\nD\nD\nD\nA,-1,0\nE\n";
-    static const char *const nine_texts[] = {nine, less_nine, nine, less_nine};
-    size_t n = by->bytes, header, i;
-    const char *begins;
+    size_t n = by->bytes, i;
 
     signed_sheet(cheapest(0), 7, 2, 2, seven_two_texts, __LINE__);
     signed_sheet(cheapest(31), 7, 2, 2, seven_two_texts, __LINE__);
-    signed_sheet(plan_i(1, 1), 7, 2, 2, seven_two_texts, __LINE__);
     signed_sheet(plan_j, 13, 10, 5, thirteen_ten_texts, __LINE__);
-    signed_sheet(plan_i(5, 1), 9, 0, 3, nine_texts, __LINE__);
 
     /* the chosen plan stays */
     header_is(cheapest(2), minus(byte(3)), byte(0), 1, "S,I,3,1,2,1,1,-3,0\n", __LINE__);
     header_is(cheapest(2), byte(6), minus(byte(11)), 4, "S,J,1,1,2,4,3,6,-b\n", __LINE__);
     header_is(cheapest(2), minus(byte(3)), minus(byte(3)), 3, "S,I,1,1,0,3,2,-3,-3\n", __LINE__);
 
-    /* all figures behind a minus; the most steps with both signs minus: two bytes more in the header, a minus more at the top and fewer below */
-    begins = spelled("S,I,1,1,0,1,%u,-%s,0\n", (unsigned)(8 * n), times(2 * n, "f"));
-    header_is(plan_i(1, 1), minus(filled(255, n)), byte(0), 1, begins, __LINE__);
-    begins = spelled("S,I,1,1,0,%u,%u,-", (unsigned)(8 * n + 1), (unsigned)(8 * n));
-    header = strlen(begins) + 4 * n + 3;
-    written(sheet_begins(plan_i(1, 1), minus(heavy()), minus(heavy()), begins, __LINE__), header + 14 + 16 * n + 4 * n * 12 + 2, 8 * n + 1,
-            __LINE__);
-
     for (i = 0; i < SIGNS; i++) {
         /* zero is written 0 */
         sheet_is(plan_j, with_sign(byte(0), signs[i]), with_sign(filled(0, n), signs[i]), 2, "S,J,1,1,2,2,0,0,0\nT,1,1\nT,1,-1\nE\n", __LINE__);
-        sheet_is(plan_i(1, 1), with_sign(filled(0, n), signs[i]), with_sign(byte(0), signs[i]), 0, "S,I,1,1,0,0,0,0,0\nE\n", __LINE__);
         sheet_is(cheapest(0), with_sign(byte(0), signs[i]), byte(1), 0, "S,I,1,1,0,0,0,0,1\nL,0,1\nE\n", __LINE__);
         sheet_is(cheapest(31), minus(byte(1)), with_sign(byte(0), signs[i]), 0, "S,I,1,1,0,0,0,-1,0\nL,-1,0\nE\n", __LINE__);
 
         SHEET_REFUSED(plan_j, with_sign(filled(1, 0), signs[i]), with_sign(byte(2), signs[i]), by->sheet_bytes, 1);
         SHEET_REFUSED(plan_j, with_sign(byte(7), signs[i]), with_sign(byte(2), signs[i]), by->sheet_bytes - 1, 3);
-        SHEET_REFUSED(plan_i(2, 1), with_sign(byte(7), signs[i]), with_sign(filled(1, by->bytes + 1), signs[i]), 0, 1);
-        SHEET_REFUSED(plan_i(1, 33), with_sign(byte(7), signs[i]), with_sign(byte(2), signs[i]), 0, 2);
-        SHEET_REFUSED(plan_i(1, 1), with_sign(byte(7), signs[i]), with_sign(byte(2), signs[i]), 0, 3);
         SHEET_REFUSED(cheapest(32), with_sign(filled(1, by->bytes + 1), signs[i]), with_sign(byte(2), signs[i]), 0, 1);
         SHEET_REFUSED(cheapest(32), with_sign(byte(7), signs[i]), with_sign(byte(2), signs[i]), 0, 4);
         SHEET_REFUSED(cheapest(31), with_sign(byte(7), signs[i]), with_sign(byte(2), signs[i]), 0, 3);
     }
 }
 
+/* Sheets of plan I with every two signs; all figures behind a minus, and zero; and refusals with every sign. */
+static void negative_plan_i(void)
+{
+    static const char less_nine[] = "S,I,5,1,3,3,4,-9,0\nT,2,0\nT,3,0\nT,5,0\nL,-1,0\nD\nD\nD\nA,-1,0\nE\n";
+    static const char less_nine_down[] = "S,I,5,1,3,3,2,-9,0\nT,2,0\nT,3,0\nT,5,0\nL,-5,0\nD\nA,1,0\nE\n";
+    static const char *const nine_texts[] = {nine, less_nine, nine, less_nine};
+    static const char *const nine_down_texts[] = {nine_down, less_nine_down, nine_down, less_nine_down};
+    size_t n = by->bytes, i;
+    const char *begins = spelled("S,I,1,1,0,1,%u,-%s,0\n", (unsigned)(8 * n), times(2 * n, "f"));
+
+    header_is(plan_i(1, 1), minus(filled(255, n)), byte(0), 1, begins, __LINE__);
+    signed_sheet(plan_i(1, 1), 7, 2, 2, seven_two_texts, __LINE__);
+    signed_sheet(plan_i(5, 1), 9, 0, 3, by->down ? nine_down_texts : nine_texts, __LINE__);
+    for (i = 0; i < SIGNS; i++) {
+        sheet_is(plan_i(1, 1), with_sign(filled(0, n), signs[i]), with_sign(byte(0), signs[i]), 0, "S,I,1,1,0,0,0,0,0\nE\n", __LINE__);
+        SHEET_REFUSED(plan_i(2, 1), with_sign(byte(7), signs[i]), with_sign(filled(1, n + 1), signs[i]), 0, 1);
+        SHEET_REFUSED(plan_i(1, 33), with_sign(byte(7), signs[i]), with_sign(byte(2), signs[i]), 0, 2);
+        SHEET_REFUSED(plan_i(1, 1), with_sign(byte(7), signs[i]), with_sign(byte(2), signs[i]), 0, 3);
+    }
+}
+
+static void plan_i_sheets(void)
+{
+    uint32_t m;
+    size_t n = by->bytes, room = by->sheet_bytes;
+
+    /* 7 and 2, 9, and 11 with window 1, the last two of which have other rows from the top down */
+    sheet_is(plan_i(1, 1), byte(7), byte(2), 2, seven_two, __LINE__);
+    sheet_is(plan_i(5, 1), byte(9), byte(0), 3, by->down ? nine_down : nine, __LINE__);
+    sheet_is(plan_i(1, 1), byte(0), byte(11), 2,
+             by->down ? "S,I,1,1,0,2,3,0,b\nL,0,1\nD\nA,0,1\nD\nD\nA,0,-1\nE\n"
+                      : "S,I,1,1,0,2,4,0,b\nL,0,1\nD\nD\nA,0,-1\nD\nD\nA,0,-1\nE\n",
+             __LINE__);
+    sheet_is(plan_i(1, 1), filled(0, n), byte(0), 0, "S,I,1,1,0,0,0,0,0\nE\n", __LINE__);
+
+    /* the longest scalars, and every window */
+    sheet_begins(plan_i(1, 1), filled(85, n), filled(85, n), "S,I,1,1,0,", __LINE__);
+    sheet_begins(plan_i(31, 31), filled(255, n), filled(255, n), "S,I,31,31,31,", __LINE__);
+    heavy_plan_i();
+    for (m = 1; m <= 31; m += 2) {
+        windows_begin(m, 32 - m, __LINE__);
+        windows_begin(m, m, __LINE__);
+    }
+
+    /* 1. has each scalar a byte, and no more than the limit? */
+    SHEET_REFUSED(plan_i(1, 1), filled(1, 0), byte(2), room, 1);
+    SHEET_REFUSED(plan_i(1, 1), byte(7), filled(1, n + 1), room, 1);
+    SHEET_REFUSED(plan_i(2, 1), filled(1, n + 1), byte(2), 0, 1);
+
+    /* 2. is each window odd, 1 to 31? */
+    SHEET_REFUSED(plan_i(0, 1), byte(7), byte(2), room, 2);
+    SHEET_REFUSED(plan_i(1, 4), byte(7), byte(2), room, 2);
+    SHEET_REFUSED(plan_i(33, 1), byte(7), byte(2), room, 2);
+    SHEET_REFUSED(plan_i(1, 33), byte(7), byte(2), room, 2);
+    SHEET_REFUSED(plan_i(257, 1), byte(7), byte(2), room, 2);
+    SHEET_REFUSED(plan_i(1, 257), byte(7), byte(2), room, 2);
+    SHEET_REFUSED(plan_i(65537, 4294967295u), byte(7), byte(2), room, 2);
+    SHEET_REFUSED(plan_i(1, 2), byte(7), byte(2), 0, 2);
+
+    /* 3. has the sheet buffer as many bytes as the longest sheet may have? */
+    SHEET_REFUSED(plan_i(1, 1), byte(7), byte(2), room - 1, 3);
+    SHEET_REFUSED(plan_i(1, 1), byte(7), byte(2), 0, 3);
+
+    /* no buffer at all */
+    CHECK(by->plan_i(NULL, 0, 1, NULL, 0, 0, 0, 0, NULL, 0) == (uint64_t)1 << 32);
+    CHECK(by->plan_i((const uint8_t *)"\7", 1, 0, (const uint8_t *)"\2", 1, 1, 1, 1, NULL, 0) == (uint64_t)3 << 32);
+    negative_plan_i();
+}
+
 static void sheets(void)
 {
-    uint32_t m, limit;
+    uint32_t limit;
     size_t n;
 
     /* the samples */
@@ -1035,24 +1134,15 @@ static void sheets(void)
     header_is(cheapest(2), byte(45), byte(11), 5, "S,I,3,1,2,5,5,2d,b\n", __LINE__);
     header_is(cheapest(2), byte(3), byte(3), 3, "S,I,1,1,0,3,2,3,3\n", __LINE__);
 
-    /* sheets of a named plan */
-    sheet_is(plan_i(1, 1), byte(7), byte(2), 2, seven_two, __LINE__);
+    /* plan J, and zeros */
     sheet_is(plan_j, byte(13), byte(10), 5, thirteen_ten, __LINE__);
-    sheet_is(plan_i(5, 1), byte(9), byte(0), 3, nine, __LINE__);
     sheet_is(plan_j, byte(0), byte(0), 2, "S,J,1,1,2,2,0,0,0\nT,1,1\nT,1,-1\nE\n", __LINE__);
-    sheet_is(plan_i(1, 1), filled(0, by->bytes), byte(0), 0, "S,I,1,1,0,0,0,0,0\nE\n", __LINE__);
     sheet_is(cheapest(31), byte(0), byte(0), 0, "S,I,1,1,0,0,0,0,0\nE\n", __LINE__);
 
-    /* the longest scalars, every window, every limit, scalars of every length */
+    /* the longest scalars, every limit, scalars of every length */
     sheet_begins(plan_j, filled(255, by->bytes), filled(255, by->bytes), "S,J,1,1,2,", __LINE__);
     sheet_begins(plan_j, filled(85, by->bytes), filled(255, by->bytes), "S,J,1,1,2,", __LINE__);
-    sheet_begins(plan_i(1, 1), filled(85, by->bytes), filled(85, by->bytes), "S,I,1,1,0,", __LINE__);
-    sheet_begins(plan_i(31, 31), filled(255, by->bytes), filled(255, by->bytes), "S,I,31,31,31,", __LINE__);
-    heavy_sheets();
-    for (m = 1; m <= 31; m += 2) {
-        windows_begin(m, 32 - m, __LINE__);
-        windows_begin(m, m, __LINE__);
-    }
+    heavy_plan_j();
     for (limit = 0; limit <= 31; limit++)
         sheet_begins(cheapest(limit), any_within(), any_within(), "S,", __LINE__);
     for (n = 1; n <= by->bytes; n++)
@@ -1063,22 +1153,9 @@ static void sheets(void)
     SHEET_REFUSED(plan_j, byte(7), filled(1, 0), by->sheet_bytes, 1);
     SHEET_REFUSED(plan_j, filled(1, by->bytes + 1), byte(2), by->sheet_bytes, 1);
     SHEET_REFUSED(plan_j, byte(7), filled(1, by->bytes + 1), 0, 1);
-    SHEET_REFUSED(plan_i(1, 1), filled(1, 0), byte(2), by->sheet_bytes, 1);
-    SHEET_REFUSED(plan_i(1, 1), byte(7), filled(1, by->bytes + 1), by->sheet_bytes, 1);
-    SHEET_REFUSED(plan_i(2, 1), filled(1, by->bytes + 1), byte(2), 0, 1);
     SHEET_REFUSED(cheapest(0), filled(1, 0), byte(2), by->sheet_bytes, 1);
     SHEET_REFUSED(cheapest(0), byte(7), filled(1, by->bytes + 1), by->sheet_bytes, 1);
     SHEET_REFUSED(cheapest(32), filled(1, by->bytes + 1), byte(2), 0, 1);
-
-    /* 2. is each window odd, 1 to 31? */
-    SHEET_REFUSED(plan_i(0, 1), byte(7), byte(2), by->sheet_bytes, 2);
-    SHEET_REFUSED(plan_i(1, 4), byte(7), byte(2), by->sheet_bytes, 2);
-    SHEET_REFUSED(plan_i(33, 1), byte(7), byte(2), by->sheet_bytes, 2);
-    SHEET_REFUSED(plan_i(1, 33), byte(7), byte(2), by->sheet_bytes, 2);
-    SHEET_REFUSED(plan_i(257, 1), byte(7), byte(2), by->sheet_bytes, 2);
-    SHEET_REFUSED(plan_i(1, 257), byte(7), byte(2), by->sheet_bytes, 2);
-    SHEET_REFUSED(plan_i(65537, 4294967295u), byte(7), byte(2), by->sheet_bytes, 2);
-    SHEET_REFUSED(plan_i(1, 2), byte(7), byte(2), 0, 2);
 
     /* 4. is the limit at most 31? */
     SHEET_REFUSED(cheapest(32), byte(7), byte(2), by->sheet_bytes, 4);
@@ -1090,14 +1167,11 @@ static void sheets(void)
     /* 3. has the sheet buffer as many bytes as the longest sheet may have? */
     SHEET_REFUSED(plan_j, byte(7), byte(2), by->sheet_bytes - 1, 3);
     SHEET_REFUSED(plan_j, byte(7), byte(2), 0, 3);
-    SHEET_REFUSED(plan_i(1, 1), byte(7), byte(2), by->sheet_bytes - 1, 3);
-    SHEET_REFUSED(plan_i(1, 1), byte(7), byte(2), 0, 3);
     SHEET_REFUSED(cheapest(0), byte(7), byte(2), by->sheet_bytes - 1, 3);
     SHEET_REFUSED(cheapest(31), byte(7), byte(2), 0, 3);
 
     /* no buffer at all */
     CHECK(by->plan_j(NULL, 0, 0, NULL, 0, 1, NULL, 0) == (uint64_t)1 << 32);
-    CHECK(by->plan_i(NULL, 0, 1, NULL, 0, 0, 0, 0, NULL, 0) == (uint64_t)1 << 32);
     CHECK(by->cheapest(NULL, 0, 0, NULL, 0, 0, 32, NULL, 0) == (uint64_t)1 << 32);
     CHECK(by->plan_j((const uint8_t *)"\7", 1, 0, (const uint8_t *)"\2", 1, 0, NULL, 0) == (uint64_t)3 << 32);
     CHECK(by->cheapest((const uint8_t *)"\7", 1, 1, (const uint8_t *)"\2", 1, 2, 0, NULL, 0) == (uint64_t)3 << 32);
@@ -1191,6 +1265,7 @@ static void readings(void)
     READ(seven_two, 0, 0);
     READ(thirteen_ten, 0, 0);
     READ(nine, 0, 0);
+    READ(nine_down, 0, 0);
     READ("S,I,1,1,0,0,0,0,0\nE\n", 0, 0);
     /* a sheet for 3, 0 that no call writes */
     READ("S,I,1,1,0,2,2,3,0\nL,1,0\nD\nA,-1,0\nD\nA,1,0\nE\n", 0, 0);
@@ -1321,37 +1396,39 @@ static void not_taken(size_t n)
     }
 }
 
-static void scalar_limits(void)
+/* By the calls of a card and of a gateway with the same kind of row. */
+static void scalar_limits(const struct calls *narrow, const struct calls *wide)
 {
     uint8_t ones[128], aa[128];
     memset(ones, 0xff, sizeof ones);
     memset(aa, 0xaa, sizeof aa);
     aa[127] = 0xab;
 
-    by = &card;
+    by = narrow;
     taken(66);
     not_taken(67);
     not_taken(128);
     not_taken(129);
 
-    by = &gateway;
+    by = wide;
     taken(66);
     taken(67);
     taken(128);
     not_taken(129);
 
     /* 128 bytes of 255 have 1,025 places; the heaviest row for window 1 has 513 digits that are not 0, and two of them 1,025 additions */
-    written(gateway.row(ones, 128, 0, 1, lend(&first), 1025), 1025, 2, __LINE__);
-    written(gateway.row(aa, 128, 1, 1, lend(&first), 1025), 1025, 513, __LINE__);
-    written(gateway.plan_i(aa, 128, 0, aa, 128, 0, 1, 1, lend(&first), 32768), 534 + 12 + 1024 * 2 + 512 * 14 + 2, 1025, __LINE__);
+    written(wide->row(ones, 128, 0, 1, lend(&first), 1025), 1025, 2, __LINE__);
+    written(wide->row(aa, 128, 1, 1, lend(&first), 1025), wide->down ? 1024 : 1025, 513, __LINE__);
+    written(wide->plan_i(aa, 128, 0, aa, 128, 0, 1, 1, lend(&first), 32768),
+            wide->down ? 534 + 12 + 1023 * 2 + 511 * 12 + 14 + 2 : 534 + 12 + 1024 * 2 + 512 * 14 + 2, 1025, __LINE__);
 
     /* the card's sheet buffer is too small at the gateway, and large enough at the card */
     SHEET_REFUSED(plan_j, byte(7), byte(2), SHEETS_BYTES, 3);
     SHEET_REFUSED(plan_i(1, 1), byte(7), byte(2), SHEETS_BYTES, 3);
     SHEET_REFUSED(cheapest(0), byte(7), byte(2), SHEETS_BYTES, 3);
     SHEET_REFUSED(cheapest(0), byte(7), byte(2), SHEETS_GATEWAY_BYTES - 1, 3);
-    by = &card;
-    written(card.plan_i(ones, 66, 0, ones, 66, 0, 1, 1, lend(&first), 16384), 282 + 12 + 528 * 2 + 14 + 2, 3, __LINE__);
+    by = narrow;
+    written(narrow->plan_i(ones, 66, 0, ones, 66, 0, 1, 1, lend(&first), 16384), 282 + 12 + 528 * 2 + 14 + 2, 3, __LINE__);
 }
 
 /* A sheet that is to have these answers, the number and the line, at the card and at the gateway. */
@@ -1437,34 +1514,43 @@ static void reading_limits(void)
 }
 
 /* A call for a sheet at both, each in a buffer of its own size: the same answer and the same sheet, which both accept. */
-static void same_sheet(struct order o, struct bytes k, struct bytes l, int line)
+static void same_sheet(const struct calls *narrow, const struct calls *wide, struct order o, struct bytes k, struct bytes l, int line)
 {
-    uint8_t *sheet = lend(&first), *wide = lend(&second);
+    uint8_t *sheet = lend(&first), *again = lend(&second);
     uint64_t answer;
     size_t length;
-    by = &card;
-    answer = write_sheet(o, k, l, sheet, card.sheet_bytes);
-    length = length_within(answer, card.sheet_bytes);
-    by = &gateway;
-    written(write_sheet(o, k, l, wide, gateway.sheet_bytes), length, sheets_additions(answer), line);
+    by = narrow;
+    answer = write_sheet(o, k, l, sheet, narrow->sheet_bytes);
+    length = length_within(answer, narrow->sheet_bytes);
+    by = wide;
+    written(write_sheet(o, k, l, again, wide->sheet_bytes), length, sheets_additions(answer), line);
     check(memcmp(first.all, second.all, sizeof first.all) == 0, "the card's sheet", line);
-    check(card.read(sheet, length) == 0 && gateway.read(wide, length) == 0, "both accept it", line);
+    check(narrow->read(sheet, length) == 0 && wide->read(again, length) == 0, "both accept it", line);
     check(only_read(k) & only_read(l), "the scalars are only read", line);
 }
 
-/* The row, and the joint form with its codes, at both. */
-static void same_digits(struct bytes k, struct bytes l, int line)
+/* The row at both. */
+static void same_row(const struct calls *narrow, const struct calls *wide, struct bytes scalar, int line)
+{
+    size_t places = SHEETS_PLACES(scalar.n);
+    uint64_t answer;
+    uint32_t m;
+    for (m = 1; m <= 31; m += 2) {
+        answer = narrow->row(scalar.at, scalar.n, scalar.sign, m, lend(&first), places);
+        written(wide->row(scalar.at, scalar.n, scalar.sign, m, lend(&second), places), length_within(answer, places), sheets_weight(answer),
+                line);
+        check(memcmp(first.all, second.all, sizeof first.all) == 0, "the card's row", line);
+    }
+    check(only_read(scalar), "the scalar is only read", line);
+}
+
+/* The joint form with its codes at both. */
+static void same_columns(struct bytes k, struct bytes l, int line)
 {
     static struct lent lent[4];
     static struct lent *const again[] = {&first, &second, &third, &fourth};
     size_t places = SHEETS_PLACES(k.n > l.n ? k.n : l.n), i;
     uint64_t answer;
-    uint32_t m;
-    for (m = 1; m <= 31; m += 2) {
-        answer = card.row(k.at, k.n, k.sign, m, lend(&first), places);
-        written(gateway.row(k.at, k.n, k.sign, m, lend(&second), places), length_within(answer, places), sheets_weight(answer), line);
-        check(memcmp(first.all, second.all, sizeof first.all) == 0, "the card's row", line);
-    }
     answer = card.joint_codes(k.at, k.n, k.sign, l.at, l.n, l.sign, lend(&lent[0]), places, lend(&lent[1]), places, lend(&lent[2]), places,
                               lend(&lent[3]), places);
     check(gateway.joint_codes(k.at, k.n, k.sign, l.at, l.n, l.sign, lend(&first), places, lend(&second), places, lend(&third), places,
@@ -1480,21 +1566,45 @@ static void same_digits(struct bytes k, struct bytes l, int line)
     check(only_read(k) & only_read(l), "the scalars are only read", line);
 }
 
+static uint32_t any_window(void) { return 1 + 2 * (next_number() % 16); }
+
 /* What the card takes the gateway takes, with the same answer and the same bytes. */
 static void same_at_both(void)
 {
     size_t n;
     for (n = 1; n <= 66; n++) {
-        same_digits(any_scalar(n), any_scalar(67 - n), __LINE__);
-        same_sheet(plan_j, any_scalar(n), any_scalar(67 - n), __LINE__);
-        same_sheet(plan_i(1 + 2 * (next_number() % 16), 1 + 2 * (next_number() % 16)), any_scalar(n), any_scalar(67 - n), __LINE__);
-        same_sheet(cheapest(next_number() % 32), any_scalar(n), any_scalar(67 - n), __LINE__);
+        same_row(&card, &gateway, any_scalar(n), __LINE__);
+        same_row(&card_down, &gateway_down, any_scalar(n), __LINE__);
+        same_columns(any_scalar(n), any_scalar(67 - n), __LINE__);
+        same_sheet(&card, &gateway, plan_j, any_scalar(n), any_scalar(67 - n), __LINE__);
+        same_sheet(&card, &gateway, plan_i(any_window(), any_window()), any_scalar(n), any_scalar(67 - n), __LINE__);
+        same_sheet(&card_down, &gateway_down, plan_i(any_window(), any_window()), any_scalar(n), any_scalar(67 - n), __LINE__);
+        same_sheet(&card, &gateway, cheapest(next_number() % 32), any_scalar(n), any_scalar(67 - n), __LINE__);
     }
+}
+
+/* The two kinds of rows: the same weight, and in plan I the same additions. What they read back to was checked with each. */
+static void same_weights(const struct calls *up, const struct calls *down)
+{
+    size_t n, places;
+    uint32_t m;
+    by = down;
+    for (n = 1; n <= down->bytes; n++)
+        for (m = 1; m <= 31; m += 2) {
+            struct bytes k = any_scalar(n), l = any_within();
+            uint32_t m2 = any_window();
+            places = SHEETS_PLACES(n);
+            CHECK(sheets_weight(down->row(k.at, n, k.sign, m, lend(&first), places))
+                  == sheets_weight(up->row(k.at, n, k.sign, m, lend(&second), places)));
+            CHECK(sheets_additions(down->plan_i(k.at, n, k.sign, l.at, l.n, l.sign, m, m2, lend(&first), down->sheet_bytes))
+                  == sheets_additions(up->plan_i(k.at, n, k.sign, l.at, l.n, l.sign, m, m2, lend(&second), up->sheet_bytes)));
+            CHECK(only_read(k) & only_read(l));
+        }
 }
 
 int main(void)
 {
-    static const struct calls *const sets[] = {&card, &gateway};
+    static const struct calls *const sets[] = {&card, &card_down, &gateway, &gateway_down};
     size_t i;
 
     parts();
@@ -1502,14 +1612,20 @@ int main(void)
     for (i = 0; i < sizeof sets / sizeof *sets; i++) {
         by = sets[i];
         rows();
+        plan_i_sheets();
+        if (by->down)
+            continue;
         joints();
         codes();
         sheets();
         readings();
     }
-    scalar_limits();
+    scalar_limits(&card, &gateway);
+    scalar_limits(&card_down, &gateway_down);
     reading_limits();
     same_at_both();
+    same_weights(&card, &card_down);
+    same_weights(&gateway, &gateway_down);
     printf("host: %lu checks, %lu failed\n", checks, failed);
     return failed != 0;
 }

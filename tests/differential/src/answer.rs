@@ -110,6 +110,8 @@ mod tests {
         assert_eq!(code("row 07 0 1 9"), 0x0002_0004);
         assert_eq!(code("row 07 0 5 9"), 0x0002_0004);
         assert_eq!(code("row 35 0 3 9"), 0x0003_0007);
+        assert_eq!(code("row 0b 0 1 9"), 0x0003_0005);
+        assert_eq!(code("row-down 0b 0 1 9"), 0x0003_0004);
         assert_eq!(code("joint 00 0 00 0 9 9"), 0);
         assert_eq!(code("joint 0d 0 0a 0 9 9"), 0x0004_0005);
         assert_eq!(code("joint 07 0 02 0 9 9"), 0x0003_0004);
@@ -122,6 +124,8 @@ mod tests {
         assert_eq!(code("cheapest 03 0 00 0 1 16384"), 1 << 16 | 37);
         assert_eq!(code("plan-i 00 0 00 0 1 1 16384"), 20);
         assert_eq!(code("plan-i 09 0 00 0 5 1 16384"), 3 << 16 | 56);
+        assert_eq!(code("plan-i 0b 0 00 0 1 1 16384"), 2 << 16 | 48);
+        assert_eq!(code("plan-i-down 0b 0 00 0 1 1 16384"), 2 << 16 | 45);
         assert_eq!(code("plan-j 0d 0 0a 0 16384"), 5 << 16 | 67);
     }
 

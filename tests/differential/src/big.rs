@@ -70,6 +70,11 @@ impl Big {
         (self.0[0] & ((1 << count) - 1)) as i64
     }
 
+    /// The bit at a place.
+    pub fn bit(self, place: usize) -> bool {
+        self.0[place / 64] >> (place % 64) & 1 == 1
+    }
+
     /// The place of the size's top one bit plus 1, and 0 for zero.
     pub fn bit_length(self) -> usize {
         let Big(words) = self.size();
@@ -248,6 +253,13 @@ mod tests {
         assert_eq!(Big::ZERO.bit_length(), 0);
         assert_eq!(Big::from(1).bit_length(), 1);
         assert_eq!(Big::from_bytes(&[1, 0, 0, 0, 0, 0, 0, 0, 0]).bit_length(), 65);
+    }
+
+    #[test]
+    fn bits() {
+        let number = Big::from_bytes(&[5, 0, 0, 0, 0, 0, 0, 0, 2]);
+        let ones = (0..1_152).filter(|&place| number.bit(place));
+        assert_eq!(ones.collect::<Vec<_>>(), [1, 64, 66]);
     }
 
     #[test]

@@ -1,20 +1,23 @@
-//! The seven calls: their questions in order, their answers, and how a call is printed and read
+//! The calls: their questions in order, their answers, and how a call is printed and read
 //! back.
 
 use crate::answer::Answer;
 use crate::big::Big;
 use crate::cheapest::Forms;
+use crate::direction::Direction;
 use crate::limits::Limits;
 use crate::plan::{Plan, MOST_SLOTS};
 use crate::scalars::Scalar;
 use crate::sheet::Sheet;
-use crate::{codes, joint, reader, row};
+use crate::{codes, joint, reader};
 use std::fmt;
 
 /// A call with all that is lent to it, but for what its buffers hold before.
 #[derive(Clone, PartialEq, Eq, Debug)]
 pub enum Call {
+    /// The row from the bottom up or from the top down; so too the rows of plan I.
     Row {
+        direction: Direction,
         scalar: Scalar,
         m: u32,
         places: usize,
@@ -37,6 +40,7 @@ pub enum Call {
         room: usize,
     },
     PlanI {
+        direction: Direction,
         k: Scalar,
         l: Scalar,
         m1: u32,
@@ -61,7 +65,9 @@ impl Call {
             return Answer::refused(number, 0);
         }
         match self {
-            Call::Row { scalar, m, .. } => Answer::Row(row::recode(scalar.value(), *m as u8)),
+            Call::Row { direction, scalar, m, .. } => {
+                Answer::Row(direction.row(scalar.value(), *m as u8))
+            }
             Call::Joint { k, l, .. } => {
                 let columns = joint::recode(k.value(), l.value());
                 let (k_row, l_row) = joint::rows(&columns);
@@ -74,9 +80,12 @@ impl Call {
                 let (k_codes, l_codes) = codes::of_columns(k, l, &columns);
                 Answer::Coded { k_row, l_row, k_codes, l_codes }
             }
-            Call::PlanJ { k, l, .. } => sheet(Plan::Joint, k, l),
-            Call::PlanI { k, l, m1, m2, .. } => {
-                sheet(Plan::Interleaved { m1: *m1 as u8, m2: *m2 as u8 }, k, l)
+            Call::PlanJ { k, l, .. } => {
+                Answer::sheet(&Sheet::of_plan(Plan::Joint, k.value(), l.value()))
+            }
+            Call::PlanI { direction, k, l, m1, m2, .. } => {
+                let (m1, m2) = (*m1 as u8, *m2 as u8);
+                Answer::sheet(&Sheet::of_rows(*direction, m1, m2, k.value(), l.value()))
             }
             Call::Cheapest { k, l, limit, .. } => {
                 let forms = Forms::of(k.value(), l.value());
@@ -93,7 +102,7 @@ impl Call {
     fn first_question_missed(&self, limits: Limits) -> Option<u32> {
         let has_length = |scalar: &Scalar| (1..=limits.bytes()).contains(&scalar.bytes.len());
         let questions = match self {
-            Call::Row { scalar, m, places } => {
+            Call::Row { scalar, m, places, .. } => {
                 vec![
                     (has_length(scalar), 1),
                     (is_window(*m), 2),
@@ -117,7 +126,7 @@ impl Call {
             Call::PlanJ { k, l, room } => {
                 vec![(has_length(k) && has_length(l), 1), (*room >= limits.sheet(), 3)]
             }
-            Call::PlanI { k, l, m1, m2, room } => vec![
+            Call::PlanI { k, l, m1, m2, room, .. } => vec![
                 (has_length(k) && has_length(l), 1),
                 (is_window(*m1) && is_window(*m2), 2),
                 (*room >= limits.sheet(), 3),
@@ -169,10 +178,6 @@ impl Call {
     }
 }
 
-fn sheet(plan: Plan, k: &Scalar, l: &Scalar) -> Answer {
-    Answer::sheet(&Sheet::of_plan(plan, k.value(), l.value()))
-}
-
 fn is_window(m: u32) -> bool {
     m % 2 == 1 && m <= 31
 }
@@ -182,7 +187,9 @@ impl fmt::Display for Call {
     fn fmt(&self, out: &mut fmt::Formatter) -> fmt::Result {
         let words = |scalar: &Scalar| format!("{} {}", hex(&scalar.bytes), scalar.sign);
         match self {
-            Call::Row { scalar, m, places } => write!(out, "row {} {m} {places}", words(scalar)),
+            Call::Row { direction, scalar, m, places } => {
+                write!(out, "row{} {} {m} {places}", suffix(*direction), words(scalar))
+            }
             Call::Joint { k, l, k_places, l_places } => {
                 write!(out, "joint {} {} {k_places} {l_places}", words(k), words(l))
             }
@@ -191,8 +198,9 @@ impl fmt::Display for Call {
                 write!(out, "joint-codes {k} {l} {k_digits} {l_digits} {k_codes} {l_codes}")
             }
             Call::PlanJ { k, l, room } => write!(out, "plan-j {} {} {room}", words(k), words(l)),
-            Call::PlanI { k, l, m1, m2, room } => {
-                write!(out, "plan-i {} {} {m1} {m2} {room}", words(k), words(l))
+            Call::PlanI { direction, k, l, m1, m2, room } => {
+                let (suffix, k, l) = (suffix(*direction), words(k), words(l));
+                write!(out, "plan-i{suffix} {k} {l} {m1} {m2} {room}")
             }
             Call::Cheapest { k, l, limit, room } => {
                 write!(out, "cheapest {} {} {limit} {room}", words(k), words(l))
@@ -202,14 +210,19 @@ impl fmt::Display for Call {
     }
 }
 
+/// What is printed behind the name of a call for rows of this kind.
+fn suffix(direction: Direction) -> &'static str {
+    match direction {
+        Direction::Up => "",
+        Direction::Down => "-down",
+    }
+}
+
 /// The call that these words print.
 pub fn parse(words: &[&str]) -> Option<Call> {
     Some(match *words {
-        ["row", scalar, sign, m, places] => Call::Row {
-            scalar: parse_scalar(scalar, sign)?,
-            m: m.parse().ok()?,
-            places: places.parse().ok()?,
-        },
+        ["row", ref words @ ..] => parse_row(Direction::Up, words)?,
+        ["row-down", ref words @ ..] => parse_row(Direction::Down, words)?,
         ["joint", k, ks, l, ls, k_places, l_places] => Call::Joint {
             k: parse_scalar(k, ks)?,
             l: parse_scalar(l, ls)?,
@@ -231,13 +244,8 @@ pub fn parse(words: &[&str]) -> Option<Call> {
             l: parse_scalar(l, ls)?,
             room: room.parse().ok()?,
         },
-        ["plan-i", k, ks, l, ls, m1, m2, room] => Call::PlanI {
-            k: parse_scalar(k, ks)?,
-            l: parse_scalar(l, ls)?,
-            m1: m1.parse().ok()?,
-            m2: m2.parse().ok()?,
-            room: room.parse().ok()?,
-        },
+        ["plan-i", ref words @ ..] => parse_plan_i(Direction::Up, words)?,
+        ["plan-i-down", ref words @ ..] => parse_plan_i(Direction::Down, words)?,
         ["cheapest", k, ks, l, ls, limit, room] => Call::Cheapest {
             k: parse_scalar(k, ks)?,
             l: parse_scalar(l, ls)?,
@@ -247,6 +255,23 @@ pub fn parse(words: &[&str]) -> Option<Call> {
         ["read", sheet] => Call::Read { sheet: unhex(sheet)? },
         _ => return None,
     })
+}
+
+fn parse_row(direction: Direction, words: &[&str]) -> Option<Call> {
+    let [scalar, sign, m, places] = *words else {
+        return None;
+    };
+    let scalar = parse_scalar(scalar, sign)?;
+    Some(Call::Row { direction, scalar, m: m.parse().ok()?, places: places.parse().ok()? })
+}
+
+fn parse_plan_i(direction: Direction, words: &[&str]) -> Option<Call> {
+    let [k, ks, l, ls, m1, m2, room] = *words else {
+        return None;
+    };
+    let (k, l) = (parse_scalar(k, ks)?, parse_scalar(l, ls)?);
+    let (m1, m2, room) = (m1.parse().ok()?, m2.parse().ok()?, room.parse().ok()?);
+    Some(Call::PlanI { direction, k, l, m1, m2, room })
 }
 
 fn parse_scalar(bytes: &str, sign: &str) -> Option<Scalar> {
@@ -278,16 +303,21 @@ mod tests {
     #[test]
     fn calls_read_back() {
         let (k, l) = (Scalar::plus([0, 0xff]), Scalar::new([], u32::MAX));
-        let calls = [
-            Call::Row { scalar: k.with_sign(256), m: 4, places: 17 },
+        let of_rows = Direction::BOTH.map(|direction| {
+            let (scalar, k, l) = (k.with_sign(256), k.clone(), l.clone());
+            [
+                Call::Row { direction, scalar, m: 4, places: 17 },
+                Call::PlanI { direction, k, l, m1: 5, m2: u32::MAX, room: 16_383 },
+            ]
+        });
+        let others = [
             Call::Joint { k: k.clone(), l: l.clone(), k_places: 17, l_places: 0 },
             Call::JointCodes { k: k.clone(), l: l.clone(), rooms: [17, 0, 18, 529] },
             Call::PlanJ { k: k.with_sign(2), l: l.with_sign(0), room: 16_384 },
-            Call::PlanI { k: k.clone(), l: l.clone(), m1: 5, m2: u32::MAX, room: 16_383 },
             Call::Cheapest { k, l, limit: 32, room: 0 },
             Call::Read { sheet: b"E\n".to_vec() },
         ];
-        for call in calls {
+        for call in of_rows.into_iter().flatten().chain(others) {
             let printed = call.to_string();
             let words: Vec<&str> = printed.split(' ').collect();
             assert_eq!(parse(&words), Some(call));

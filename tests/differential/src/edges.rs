@@ -5,6 +5,7 @@
 use crate::answer::Answer;
 use crate::big::Big;
 use crate::calls::Call;
+use crate::direction::Direction::{self, Down, Up};
 use crate::limits::Limits;
 use crate::plan::Plan;
 use crate::samples::SEVEN_AND_TWO;
@@ -17,7 +18,6 @@ pub fn all(limits: Limits) -> Vec<(Call, Answer)> {
     edges.extend(joint_forms(limits));
     edges.extend(dense(limits));
     edges.extend(runs_of_ones(limits));
-    edges.extend(row_refusals(limits));
     edges.extend(joint_refusals(limits));
     edges.extend(codes(limits));
     edges.extend(code_refusals(limits));
@@ -31,6 +31,10 @@ pub fn all(limits: Limits) -> Vec<(Call, Answer)> {
     edges.extend(reads(limits));
     edges.extend(reads_of_negative_scalars(limits));
     edges.extend(reads_at_either_limit(limits));
+    for direction in Direction::BOTH {
+        edges.extend(row_refusals(direction, limits));
+        edges.extend(plan_i_refusals(direction, limits));
+    }
     edges
 }
 
@@ -52,10 +56,16 @@ fn too_long(limits: Limits) -> Vec<u8> {
 fn rows(limits: Limits) -> Vec<(Call, Answer)> {
     let (ones, places) = (all_ones(limits), limits.places());
     vec![
-        (row(&[9], 31, 9), Answer::Row(vec![9])),
-        (row(&[0, 0, 9], 7, 25), Answer::Row(vec![-7, 0, 0, 0, 1])),
-        (row(&ones, 1, places), Answer::Row(carried(limits))),
-        (row(&ones, 31, places + 71), Answer::Row(carried(limits))),
+        (row(Up, &[9], 31, 9), Answer::Row(vec![9])),
+        (row(Down, &[9], 31, 9), Answer::Row(vec![9])),
+        (row(Up, &[0, 0, 9], 7, 25), Answer::Row(vec![-7, 0, 0, 0, 1])),
+        (row(Down, &[0, 0, 9], 7, 25), Answer::Row(vec![-1, 5])),
+        (row(Up, &[11], 1, 9), Answer::Row(vec![-1, 0, -1, 0, 1])),
+        (row(Down, &[11], 1, 9), Answer::Row(vec![-1, 0, 1, 1])),
+        (row(Up, &ones, 1, places), Answer::Row(carried(limits))),
+        (row(Down, &ones, 1, places), Answer::Row(carried(limits))),
+        (row(Up, &ones, 31, places + 71), Answer::Row(carried(limits))),
+        (row(Down, &ones, 31, places + 71), Answer::Row(carried(limits))),
     ]
 }
 
@@ -76,10 +86,16 @@ fn joint_forms(limits: Limits) -> Vec<(Call, Answer)> {
 /// As many digits, and as many columns, that are not zero as the rules allow.
 fn dense(limits: Limits) -> Vec<(Call, Answer)> {
     let (places, top) = (limits.places(), limits.places() - 1);
-    let row_digit = |place| match place {
+    let upwards = |place| match place {
         _ if place == top => 1,
         _ if place % 2 == 0 => -1,
         _ => 0,
+    };
+    let downwards = |place| match place {
+        0 => -1,
+        1 => 0,
+        2 => 1,
+        _ => (place % 2) as i8,
     };
     // The column at the highest place below the top is not zero unless it is the third of three.
     let columns = if top % 3 == 0 { top - 1 } else { top };
@@ -87,8 +103,12 @@ fn dense(limits: Limits) -> Vec<(Call, Answer)> {
     let (k, l) = scalars::dense_pair(limits);
     vec![
         (
-            row(&scalars::dense(limits), 1, places),
-            Answer::Row((0..places).map(row_digit).collect()),
+            row(Up, &scalars::dense(limits), 1, places),
+            Answer::Row((0..places).map(upwards).collect()),
+        ),
+        (
+            row(Down, &scalars::dense(limits), 1, places),
+            Answer::Row((0..top).map(downwards).collect()),
         ),
         (joint(&k, &l, places, places), Answer::Columns(every_third(0), every_third(1))),
     ]
@@ -117,17 +137,20 @@ fn runs_of_ones(limits: Limits) -> Vec<(Call, Answer)> {
         let scalar = scalars::ones(from, to);
         let digits = sparse(to + 1, &[(from, -1), (to, 1)]);
         let one = sparse(to + 1, &[(0, 1)]);
-        edges.extend([
-            (row(&scalar, 1, places), Answer::Row(digits.clone())),
-            (row(&scalar, 31, places), Answer::Row(digits.clone())),
-            (joint(&scalar, &[1], places, places), Answer::Columns(digits, one)),
-        ]);
+        for direction in Direction::BOTH {
+            edges.extend([
+                (row(direction, &scalar, 1, places), Answer::Row(digits.clone())),
+                (row(direction, &scalar, 31, places), Answer::Row(digits.clone())),
+            ]);
+        }
+        edges.push((joint(&scalar, &[1], places, places), Answer::Columns(digits, one)));
     }
     edges
 }
 
-fn row_refusals(limits: Limits) -> Vec<(Call, Answer)> {
+fn row_refusals(direction: Direction, limits: Limits) -> Vec<(Call, Answer)> {
     let (longer, places) = (too_long(limits), limits.places());
+    let row = |scalar: &[u8], m, places| row(direction, scalar, m, places);
     vec![
         (row(&longer, 1, places + 8), refused(1)),
         (row(&longer, 4, 0), refused(1)),
@@ -203,15 +226,25 @@ fn plan_refusals(limits: Limits) -> Vec<(Call, Answer)> {
     let (most, room) = (limits.bytes(), limits.sheet());
     vec![
         (plan_j(0, most, room), refused(1)),
-        (plan_i(most, 0, 1, 1, room), refused(1)),
         (plan_j(most + 1, most, room), refused(1)),
+        (plan_j(most, most, room - 1), refused(3)),
+    ]
+}
+
+fn plan_i_refusals(direction: Direction, limits: Limits) -> Vec<(Call, Answer)> {
+    let (most, room) = (limits.bytes(), limits.sheet());
+    let plan_i = |k_bytes, l_bytes, m1, m2, room| {
+        let (k, l) = (sevens(k_bytes), sevens(l_bytes));
+        Call::PlanI { direction, k, l, m1, m2, room }
+    };
+    vec![
+        (plan_i(most, 0, 1, 1, room), refused(1)),
         (plan_i(most, most + 1, 2, 1, room - 1), refused(1)),
         (plan_i(most, most, 2, 1, room), refused(2)),
         (plan_i(most, most, 1, 0, room), refused(2)),
         (plan_i(most, most, 1, 33, room - 1), refused(2)),
         (plan_i(most, most, 257, 1, room), refused(2)),
         (plan_i(most, most, 31, 31, room - 1), refused(3)),
-        (plan_j(most, most, room - 1), refused(3)),
     ]
 }
 
@@ -248,19 +281,27 @@ const FORTY_FIVE_BY_WINDOW_3: &str =
 fn negative_rows(limits: Limits) -> Vec<(Call, Answer)> {
     let (ones, places) = (all_ones(limits), limits.places());
     let carried = sparse(places, &[(0, 1), (places - 1, -1)]);
-    let rows: [(&[u8], u32, &[i8]); 7] = [
-        (&[7], 5, &[1, 0, 0, -1]),
-        (&[9], 5, &[-1, 0, 0, -1]),
-        (&[0, 9], 7, &[7, 0, 0, 0, -1]),
-        (&[33], 31, &[31, 0, 0, 0, 0, 0, -1]),
-        (&[53], 3, &[3, 0, 0, 1, 0, 0, -1]),
-        (&ones, 1, &carried),
-        (&ones, 31, &carried),
+    let rows: [(Direction, &[u8], u32, &[i8]); 15] = [
+        (Up, &[7], 5, &[1, 0, 0, -1]),
+        (Down, &[7], 5, &[1, 0, 0, -1]),
+        (Up, &[9], 5, &[-1, 0, 0, -1]),
+        (Down, &[9], 5, &[1, -5]),
+        (Up, &[0, 9], 7, &[7, 0, 0, 0, -1]),
+        (Down, &[0, 11], 1, &[1, 0, -1, -1]),
+        (Up, &[33], 31, &[31, 0, 0, 0, 0, 0, -1]),
+        (Down, &[33], 31, &[1, -17]),
+        (Up, &[53], 3, &[3, 0, 0, 1, 0, 0, -1]),
+        (Down, &[53], 3, &[1, -3, 0, 0, -3]),
+        (Down, &[0x57, 0x61], 5, &[-1, 0, 0, 0, 0, 5, 0, 0, 0, 0, 0, -1, -5]),
+        (Up, &ones, 1, &carried),
+        (Down, &ones, 1, &carried),
+        (Up, &ones, 31, &carried),
+        (Down, &ones, 31, &carried),
     ];
     let mut edges = Vec::new();
     for sign in minuses() {
-        for (scalar, m, digits) in rows {
-            let call = signed_row(&Scalar::new(scalar, sign), m, places);
+        for (direction, scalar, m, digits) in rows {
+            let call = signed_row(direction, &Scalar::new(scalar, sign), m, places);
             edges.push((call, Answer::Row(digits.to_vec())));
         }
     }
@@ -307,8 +348,11 @@ fn negative_sheets(limits: Limits) -> Vec<(Call, Answer)> {
     let (k, l) = (Scalar::minus([6]), Scalar::plus([11]));
     edges.push((Call::PlanJ { k, l, room }, sheet(LESS_SIX_AND_ELEVEN, 4)));
     let (k, l) = (Scalar::minus([45]), Scalar::plus([0]));
-    let call = Call::PlanI { k, l, m1: 3, m2: 1, room };
+    let call = Call::PlanI { direction: Up, k, l, m1: 3, m2: 1, room };
     edges.push((call, sheet(LESS_FORTY_FIVE, 2)));
+    let (k, l) = (Scalar::minus([11]), Scalar::plus([0]));
+    let call = Call::PlanI { direction: Down, k, l, m1: 1, m2: 1, room };
+    edges.push((call, sheet(LESS_ELEVEN, 2)));
     edges
 }
 
@@ -323,6 +367,8 @@ const LESS_SIX_AND_ELEVEN: &str =
 
 const LESS_FORTY_FIVE: &str = "S,I,3,1,2,2,5,-2d,0\nT,2,0\nT,3,0\nL,-3,0\nD\nD\nD\nD\nA,3,0\nE\n";
 
+const LESS_ELEVEN: &str = "S,I,1,1,0,2,3,-b,0\nL,-1,0\nD\nA,-1,0\nD\nD\nA,1,0\nE\n";
+
 /// Zero bytes are zero with any sign.
 fn zeros_with_a_minus(limits: Limits) -> Vec<(Call, Answer)> {
     let room = limits.sheet();
@@ -334,7 +380,8 @@ fn zeros_with_a_minus(limits: Limits) -> Vec<(Call, Answer)> {
             let places = 8 * bytes + 1;
             let (k, l) = (zero.clone(), zero.clone());
             edges.extend([
-                (signed_row(&zero, 31, places), Answer::Row(vec![])),
+                (signed_row(Up, &zero, 31, places), Answer::Row(vec![])),
+                (signed_row(Down, &zero, 31, places), Answer::Row(vec![])),
                 (signed_joint(&zero, &zero, places, places), Answer::Columns(vec![], vec![])),
                 (signed_joint(&zero, &one, places, places), Answer::Columns(vec![0], vec![1])),
                 (signed_coded(&one, &zero, [places; 4]), codes_are(&[1], &[1], &[0], &[0])),
@@ -354,11 +401,15 @@ fn negative_refusals(limits: Limits) -> Vec<(Call, Answer)> {
     let mut edges = Vec::new();
     for sign in minuses() {
         let scalar = |bytes: usize| Scalar::new(vec![7; bytes], sign);
+        for direction in Direction::BOTH {
+            edges.extend([
+                (signed_row(direction, &scalar(0), 4, 0), refused(1)),
+                (signed_row(direction, &scalar(most + 1), 1, places + 8), refused(1)),
+                (signed_row(direction, &scalar(most), 4, places), refused(2)),
+                (signed_row(direction, &scalar(most), 1, places - 1), refused(3)),
+            ]);
+        }
         edges.extend([
-            (signed_row(&scalar(0), 4, 0), refused(1)),
-            (signed_row(&scalar(most + 1), 1, places + 8), refused(1)),
-            (signed_row(&scalar(most), 4, places), refused(2)),
-            (signed_row(&scalar(most), 1, places - 1), refused(3)),
             (signed_joint(&scalar(1), &scalar(0), 9, 9), refused(1)),
             (signed_joint(&scalar(most + 1), &scalar(1), places + 8, places + 8), refused(1)),
             (signed_joint(&scalar(1), &scalar(2), 16, 17), refused(3)),
@@ -494,12 +545,12 @@ fn refused(number: u32) -> Answer {
     Answer::refused(number, 0)
 }
 
-fn row(scalar: &[u8], m: u32, places: usize) -> Call {
-    signed_row(&Scalar::plus(scalar), m, places)
+fn row(direction: Direction, scalar: &[u8], m: u32, places: usize) -> Call {
+    signed_row(direction, &Scalar::plus(scalar), m, places)
 }
 
-fn signed_row(scalar: &Scalar, m: u32, places: usize) -> Call {
-    Call::Row { scalar: scalar.clone(), m, places }
+fn signed_row(direction: Direction, scalar: &Scalar, m: u32, places: usize) -> Call {
+    Call::Row { direction, scalar: scalar.clone(), m, places }
 }
 
 fn joint(k: &[u8], l: &[u8], k_places: usize, l_places: usize) -> Call {
@@ -536,11 +587,6 @@ fn codes_are(k_row: &[i8], k_codes: &[i8], l_row: &[i8], l_codes: &[i8]) -> Answ
 /// Plan J of two scalars in so many bytes.
 fn plan_j(k_bytes: usize, l_bytes: usize, room: usize) -> Call {
     Call::PlanJ { k: sevens(k_bytes), l: sevens(l_bytes), room }
-}
-
-/// Plan I of two scalars in so many bytes.
-fn plan_i(k_bytes: usize, l_bytes: usize, m1: u32, m2: u32, room: usize) -> Call {
-    Call::PlanI { k: sevens(k_bytes), l: sevens(l_bytes), m1, m2, room }
 }
 
 fn sevens(bytes: usize) -> Scalar {

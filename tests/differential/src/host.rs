@@ -2,6 +2,7 @@
 
 use crate::lent::Lent;
 use reference::calls::Call;
+use reference::direction::Direction;
 use reference::limits::Limits;
 use reference::scalars::Scalar;
 
@@ -33,6 +34,8 @@ macro_rules! calls {
 calls! {
     row: sheets_row, sheets_gateway_row
         (Read, usize, u32, u32, Write, usize);
+    row_down: sheets_row_down, sheets_gateway_row_down
+        (Read, usize, u32, u32, Write, usize);
     joint: sheets_joint, sheets_gateway_joint
         (Read, usize, u32, Read, usize, u32, Write, usize, Write, usize);
     joint_codes: sheets_joint_codes, sheets_gateway_joint_codes
@@ -40,6 +43,8 @@ calls! {
     plan_j: sheets_plan_j, sheets_gateway_plan_j
         (Read, usize, u32, Read, usize, u32, Write, usize);
     plan_i: sheets_plan_i, sheets_gateway_plan_i
+        (Read, usize, u32, Read, usize, u32, u32, u32, Write, usize);
+    plan_i_down: sheets_plan_i_down, sheets_gateway_plan_i_down
         (Read, usize, u32, Read, usize, u32, u32, u32, Write, usize);
     cheapest: sheets_cheapest, sheets_gateway_cheapest
         (Read, usize, u32, Read, usize, u32, u32, Write, usize);
@@ -57,9 +62,13 @@ pub fn make(limits: Limits, call: &Call, inputs: &mut [Lent], buffers: &mut [Len
     // SAFETY: each pointer begins as many live bytes as the number after it says, and no two of
     // these slices overlap.
     match (call, inputs, buffers) {
-        (Call::Row { scalar, m, .. }, [bytes], [digits]) => {
+        (Call::Row { direction, scalar, m, .. }, [bytes], [digits]) => {
             let ((scalar, n, sign), (digits, places)) = (signed(bytes, scalar), digits.raw());
-            unsafe { (calls.row)(scalar, n, sign, *m, digits, places) }
+            let row = match direction {
+                Direction::Up => calls.row,
+                Direction::Down => calls.row_down,
+            };
+            unsafe { row(scalar, n, sign, *m, digits, places) }
         }
         (Call::Joint { k, l, .. }, [k_bytes, l_bytes], [k_digits, l_digits]) => {
             let ((k, kn, ks), (l, ln, ls)) = (signed(k_bytes, k), signed(l_bytes, l));
@@ -86,10 +95,14 @@ pub fn make(limits: Limits, call: &Call, inputs: &mut [Lent], buffers: &mut [Len
             let (sheet, room) = sheet.raw();
             unsafe { (calls.plan_j)(k, kn, ks, l, ln, ls, sheet, room) }
         }
-        (Call::PlanI { k, l, m1, m2, .. }, [k_bytes, l_bytes], [sheet]) => {
+        (Call::PlanI { direction, k, l, m1, m2, .. }, [k_bytes, l_bytes], [sheet]) => {
             let ((k, kn, ks), (l, ln, ls)) = (signed(k_bytes, k), signed(l_bytes, l));
             let (sheet, room) = sheet.raw();
-            unsafe { (calls.plan_i)(k, kn, ks, l, ln, ls, *m1, *m2, sheet, room) }
+            let plan_i = match direction {
+                Direction::Up => calls.plan_i,
+                Direction::Down => calls.plan_i_down,
+            };
+            unsafe { plan_i(k, kn, ks, l, ln, ls, *m1, *m2, sheet, room) }
         }
         (Call::Cheapest { k, l, limit, .. }, [k_bytes, l_bytes], [sheet]) => {
             let ((k, kn, ks), (l, ln, ls)) = (signed(k_bytes, k), signed(l_bytes, l));

@@ -1,5 +1,6 @@
-//! A second implementation of the double-and-add sheets, written from the scope document alone.
-//! The differential test compares the library with it.
+//! A second implementation of the double-and-add sheets, written from the scope document alone,
+//! and for rows from the top down from source document 000. The differential test compares the
+//! library with it.
 
 pub mod answer;
 pub mod big;
@@ -10,6 +11,8 @@ pub mod changed_orders;
 pub mod cheapest;
 pub mod codes;
 pub mod damage;
+pub mod direction;
+pub mod down;
 pub mod edges;
 pub mod foreign;
 pub mod joint;

@@ -1,4 +1,4 @@
-//! One row for a window.
+//! One row for a window from the bottom up.
 
 use crate::big::Big;
 
@@ -21,7 +21,7 @@ pub fn recode(scalar: Big, m: u8) -> Vec<i8> {
 }
 
 /// W: the smallest number with m < 2^(W−1).
-fn width(m: u8) -> u32 {
+pub fn width(m: u8) -> u32 {
     (1..).find(|w| u32::from(m) < 1 << (w - 1)).expect("a width for every window")
 }
 

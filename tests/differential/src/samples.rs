@@ -3,6 +3,7 @@
 
 use crate::answer::Answer;
 use crate::calls::Call;
+use crate::direction::Direction;
 use crate::limits::Limits;
 use crate::scalars::Scalar;
 
@@ -117,13 +118,18 @@ fn orders(room: usize) -> Vec<(Call, Says)> {
     ]
 }
 
-/// The finished width-w rows that source documents 002, chapter 5, and 003 print, as there with
-/// the top digit first. Width w is window 2^(w−1) − 1.
+/// The finished width-w rows that source documents 002, chapter 5, and 003 print, and the row from
+/// the top down of 000, section 5.1.3, as there with the top digit first. Width w is window
+/// 2^(w−1) − 1.
 fn printed_rows() -> Vec<(Call, Says)> {
-    let sample = |scalar: &[u8], m, printed: &[i8]| {
-        (row(scalar.to_vec(), m), Says::Whole(Answer::Row(from_place_0(printed))))
+    let whole = |printed: &[i8]| Says::Whole(Answer::Row(from_place_0(printed)));
+    let sample = |scalar: &[u8], m, printed: &[i8]| (row(scalar.to_vec(), m), whole(printed));
+    let down = |scalar: &[u8], m, printed: &[i8]| {
+        (row_by(Direction::Down, scalar.to_vec(), m), whole(printed))
     };
     vec![
+        // 000: the example with m = 5.
+        down(&22_369_u16.to_be_bytes(), 5, &[5, 1, 0, 0, 0, 0, 0, -5, 0, 0, 0, 0, 1]),
         // 002: example 5.5, w = 3; example 5.10, the last line, which is non-adjacent.
         sample(&619_u16.to_be_bytes(), 3, &[1, 0, 0, -3, 0, 0, 0, -3, 0, 0, 3]),
         sample(&731_u16.to_be_bytes(), 1, &[1, 0, -1, 0, 0, -1, 0, 0, -1, 0, -1]),
@@ -150,8 +156,12 @@ fn from_place_0(printed: &[i8]) -> Vec<i8> {
 }
 
 fn row(scalar: Vec<u8>, m: u32) -> Call {
+    row_by(Direction::Up, scalar, m)
+}
+
+fn row_by(direction: Direction, scalar: Vec<u8>, m: u32) -> Call {
     let places = 8 * scalar.len() + 1;
-    Call::Row { scalar: Scalar::plus(scalar), m, places }
+    Call::Row { direction, scalar: Scalar::plus(scalar), m, places }
 }
 
 fn cheapest(k: u8, l: u8, limit: u32, room: usize) -> Call {

@@ -1,9 +1,9 @@
 //! Sheets: the lines that a plan and a column list make, and how they are spelled.
 
 use crate::big::Big;
+use crate::direction::Direction;
 use crate::joint::{self, Pair};
 use crate::plan::{is_doubling, Plan};
-use crate::row;
 use std::fmt;
 
 #[derive(Clone, Copy, PartialEq, Eq, Debug)]
@@ -23,11 +23,16 @@ pub struct Sheet {
 impl Sheet {
     /// The sheet of a named plan, with the digits of its rows or of its joint form.
     pub fn of_plan(plan: Plan, k: Big, l: Big) -> Sheet {
-        let columns = match plan {
-            Plan::Joint => joint::recode(k, l),
-            Plan::Interleaved { m1, m2 } => columns(&row::recode(k, m1), &row::recode(l, m2)),
-        };
-        Sheet::from_columns(plan, k, l, &columns)
+        match plan {
+            Plan::Joint => Sheet::from_columns(plan, k, l, &joint::recode(k, l)),
+            Plan::Interleaved { m1, m2 } => Sheet::of_rows(Direction::Up, m1, m2, k, l),
+        }
+    }
+
+    /// The sheet of plan I from rows of this kind.
+    pub fn of_rows(direction: Direction, m1: u8, m2: u8, k: Big, l: Big) -> Sheet {
+        let columns = columns(&direction.row(k, m1), &direction.row(l, m2));
+        Sheet::from_columns(Plan::Interleaved { m1, m2 }, k, l, &columns)
     }
 
     /// The sheet of these columns, whoever chose their digits, from the highest non-zero place
@@ -121,6 +126,14 @@ mod tests {
         assert_eq!(sheet(-3, 1), "S,I,1,1,0,2,2,-3,1\nL,-1,0\nD\nD\nA,1,0\nA,0,1\nE\n");
         assert_eq!(sheet(3, -1), "S,I,1,1,0,2,2,3,-1\nL,1,0\nD\nD\nA,-1,0\nA,0,-1\nE\n");
         assert_eq!(sheet(-26, 0), "S,I,1,1,0,2,5,-1a,0\nL,-1,0\nD\nD\nA,1,0\nD\nD\nA,-1,0\nD\nE\n");
+    }
+
+    #[test]
+    fn rows_of_either_kind_make_a_sheet_with_as_many_additions() {
+        let sheet = |direction| Sheet::of_rows(direction, 1, 1, Big::from(11), Big::ZERO);
+        let [up, down] = Direction::BOTH.map(|direction| sheet(direction).to_string());
+        assert_eq!(up, "S,I,1,1,0,2,4,b,0\nL,1,0\nD\nD\nA,-1,0\nD\nD\nA,-1,0\nE\n");
+        assert_eq!(down, "S,I,1,1,0,2,3,b,0\nL,1,0\nD\nA,1,0\nD\nD\nA,-1,0\nE\n");
     }
 
     #[test]

@@ -3,6 +3,7 @@
 use crate::judge::Judge;
 use crate::outcome::Outcome;
 use reference::calls::Call;
+use reference::direction::Direction;
 use reference::limits::Limits;
 use reference::plan::MOST_SLOTS;
 use reference::random::Random;
@@ -26,8 +27,13 @@ fn calls(judge: &mut Judge, random: &mut Random, k: &Scalar, l: &Scalar) {
     let (m1, m2) = (random.window().into(), random.window().into());
     let limit = random.below(MOST_SLOTS as usize + 1) as u32;
     let pair = || (k.clone(), l.clone());
-    let row = Call::Row { scalar: k.clone(), m: m1, places };
-    same(judge, |_| row.clone());
+    for direction in Direction::BOTH {
+        same(judge, |_| Call::Row { direction, scalar: k.clone(), m: m1, places });
+        same_sheet(judge, |room| {
+            let (k, l) = pair();
+            Call::PlanI { direction, k, l, m1, m2, room }
+        });
+    }
     same(judge, |_| {
         let (k, l) = pair();
         Call::Joint { k, l, k_places: places, l_places: places }
@@ -39,10 +45,6 @@ fn calls(judge: &mut Judge, random: &mut Random, k: &Scalar, l: &Scalar) {
     same_sheet(judge, |room| {
         let (k, l) = pair();
         Call::PlanJ { k, l, room }
-    });
-    same_sheet(judge, |room| {
-        let (k, l) = pair();
-        Call::PlanI { k, l, m1, m2, room }
     });
     same_sheet(judge, |room| {
         let (k, l) = pair();

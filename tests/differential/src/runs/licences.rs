@@ -9,6 +9,7 @@ use reference::card::curve::Point;
 use reference::card::modular::Number;
 use reference::card::{self, Run};
 use reference::carry_stops;
+use reference::direction::Direction;
 use reference::licences::{self, Licence};
 use reference::plan::Plan;
 use reference::random::Random;
@@ -168,10 +169,12 @@ impl Trial<'_> {
 fn calls(licence: &Licence) -> Vec<Call> {
     let (k, l) = plus_scalars(licence);
     let mut calls = vec![Call::PlanJ { k: k.clone(), l: l.clone(), room: ROOM }];
-    calls.extend(WINDOWS.map(|(m1, m2)| {
-        let (k, l) = (k.clone(), l.clone());
-        Call::PlanI { k, l, m1, m2, room: ROOM }
-    }));
+    for direction in Direction::BOTH {
+        calls.extend(WINDOWS.map(|(m1, m2)| {
+            let (k, l) = (k.clone(), l.clone());
+            Call::PlanI { direction, k, l, m1, m2, room: ROOM }
+        }));
+    }
     calls.extend(LIMITS.map(|limit| cheapest(licence, limit)));
     calls
 }
@@ -191,7 +194,10 @@ fn any_call(random: &mut Random, k: Scalar, l: Scalar) -> Call {
     let ((m1, m2), limit) = (random.pick(&WINDOWS), random.pick(&LIMITS));
     match random.below(3) {
         0 => Call::PlanJ { k, l, room: ROOM },
-        1 => Call::PlanI { k, l, m1, m2, room: ROOM },
+        1 => {
+            let direction = random.pick(&Direction::BOTH);
+            Call::PlanI { direction, k, l, m1, m2, room: ROOM }
+        }
         _ => Call::Cheapest { k, l, limit, room: ROOM },
     }
 }

@@ -1,8 +1,9 @@
-//! Sheets of named plans.
+//! Sheets of named plans; those of plan I from the rows of either kind.
 
 use super::{comes_to_its_pair, compare_and_read, refused_scalars, REFUSED_WINDOWS, ROOMS};
 use crate::judge::Judge;
 use reference::calls::Call;
+use reference::direction::Direction;
 use reference::limits::Limits;
 use reference::plan::Plan;
 use reference::random::Random;
@@ -13,15 +14,27 @@ const RANDOM_PAIRS: usize = 100;
 pub fn run(judge: &mut Judge, random: &mut Random) {
     for (k, l) in pairs(random, judge.limits()) {
         for plan in Plan::all() {
-            let call = call(plan, &k, &l, judge.limits().sheet());
-            let outcome = compare_and_read(judge, &call);
-            comes_to_its_pair(judge, &call, &outcome);
+            sheets(judge, plan, &k, &l);
         }
     }
     patterned_pairs(judge, random);
     refused_lengths(judge, random);
     refused_windows(judge, random);
     rooms(judge, random);
+}
+
+/// The sheets of a plan come to the pair; those of plan I by the same number of additions.
+fn sheets(judge: &mut Judge, plan: Plan, k: &Scalar, l: &Scalar) {
+    let calls = calls(plan, k, l, judge.limits().sheet());
+    let mut additions = Vec::new();
+    for call in &calls {
+        let outcome = compare_and_read(judge, call);
+        comes_to_its_pair(judge, call, &outcome);
+        additions.push(outcome.additions());
+    }
+    if let ([_, call], [up, down]) = (&calls[..], &additions[..]) {
+        judge.hold(format_args!("the additions from the bottom up, by {call}"), up, down);
+    }
 }
 
 fn pairs(random: &mut Random, limits: Limits) -> Vec<(Scalar, Scalar)> {
@@ -53,17 +66,32 @@ fn patterned_pairs(judge: &mut Judge, random: &mut Random) {
             for plan in interleaved.into_iter().chain([Plan::Joint]) {
                 let k = scalars::signed(random, k.clone());
                 let l = scalars::signed(random, l.clone());
-                compare_and_read(judge, &call(plan, &k, &l, judge.limits().sheet()));
+                for call in calls(plan, &k, &l, judge.limits().sheet()) {
+                    compare_and_read(judge, &call);
+                }
             }
         }
     }
 }
 
-fn call(plan: Plan, k: &Scalar, l: &Scalar, room: usize) -> Call {
-    let (k, l) = (k.clone(), l.clone());
+/// The calls for a plan's sheets: of plan J one, of plan I one for each kind of row.
+fn calls(plan: Plan, k: &Scalar, l: &Scalar, room: usize) -> Vec<Call> {
     match plan {
-        Plan::Joint => Call::PlanJ { k, l, room },
-        Plan::Interleaved { m1, m2 } => Call::PlanI { k, l, m1: m1.into(), m2: m2.into(), room },
+        Plan::Joint => vec![Call::PlanJ { k: k.clone(), l: l.clone(), room }],
+        Plan::Interleaved { m1, m2 } => interleaved(k, l, m1.into(), m2.into(), room).to_vec(),
+    }
+}
+
+fn interleaved(k: &Scalar, l: &Scalar, m1: u32, m2: u32, room: usize) -> [Call; 2] {
+    Direction::BOTH.map(|direction| {
+        let (k, l) = (k.clone(), l.clone());
+        Call::PlanI { direction, k, l, m1, m2, room }
+    })
+}
+
+fn compare_each(judge: &mut Judge, calls: impl IntoIterator<Item = Call>) {
+    for call in calls {
+        judge.compare(&call);
     }
 }
 
@@ -73,10 +101,9 @@ fn refused_lengths(judge: &mut Judge, random: &mut Random) {
         for good in [Scalar::minus([7]), Scalar::plus(vec![255; limits.bytes()])] {
             for (k, l) in [(&bad, &good), (&good, &bad), (&bad, &bad)] {
                 for room in [0, limits.sheet()] {
-                    judge.compare(&call(Plan::Joint, k, l, room));
-                    judge.compare(&call(Plan::Interleaved { m1: 31, m2: 1 }, k, l, room));
-                    let (k, l) = (k.clone(), l.clone());
-                    judge.compare(&Call::PlanI { k, l, m1: 2, m2: 33, room });
+                    compare_each(judge, calls(Plan::Joint, k, l, room));
+                    compare_each(judge, interleaved(k, l, 31, 1, room));
+                    compare_each(judge, interleaved(k, l, 2, 33, room));
                 }
             }
         }
@@ -89,7 +116,7 @@ fn refused_windows(judge: &mut Judge, random: &mut Random) {
             for (m1, m2) in [(bad, good), (good, bad), (bad, bad)] {
                 for room in [0, judge.limits().sheet()] {
                     let (k, l) = scalars::random_pair(random, judge.limits());
-                    judge.compare(&Call::PlanI { k, l, m1, m2, room });
+                    compare_each(judge, interleaved(&k, &l, m1, m2, room));
                 }
             }
         }
@@ -101,8 +128,8 @@ fn rooms(judge: &mut Judge, random: &mut Random) {
         for _ in 0..8 {
             let (k, l) = scalars::random_pair(random, judge.limits());
             let plan = Plan::Interleaved { m1: random.window(), m2: random.window() };
-            judge.compare(&call(Plan::Joint, &k, &l, room));
-            judge.compare(&call(plan, &k, &l, room));
+            compare_each(judge, calls(Plan::Joint, &k, &l, room));
+            compare_each(judge, calls(plan, &k, &l, room));
         }
     }
 }

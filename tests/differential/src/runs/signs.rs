@@ -5,6 +5,7 @@ use crate::judge::Judge;
 use crate::outcome::Outcome;
 use reference::answer::Answer;
 use reference::calls::Call;
+use reference::direction::Direction;
 use reference::limits::Limits;
 use reference::random::Random;
 use reference::row;
@@ -16,7 +17,9 @@ const RANDOM_PAIRS: usize = 200;
 const SMALL: u8 = 12;
 
 pub fn run(judge: &mut Judge, random: &mut Random) {
-    rows(judge, random);
+    for direction in Direction::BOTH {
+        rows(judge, random, direction);
+    }
     for (k, l) in pairs(random, judge.limits()) {
         joint_forms(judge, &k, &l);
         for order in orders(random, judge.limits().sheet()) {
@@ -49,15 +52,15 @@ fn pairs(random: &mut Random, limits: Limits) -> Vec<(Vec<u8>, Vec<u8>)> {
 
 /// With any sign but 0 a row has each digit of the row with 0 negated, and the same length and
 /// weight.
-fn rows(judge: &mut Judge, random: &mut Random) {
+fn rows(judge: &mut Judge, random: &mut Random, direction: Direction) {
     let mut all: Vec<Vec<u8>> = (0..=255).map(|value| vec![value]).collect();
     all.extend(scalars::patterned(judge.limits()));
     all.extend((0..100).map(|_| scalars::random(random, judge.limits()).bytes));
     for bytes in all {
         for m in row::windows() {
             let row = |sign| {
-                let scalar = Scalar::new(bytes.clone(), sign);
-                Call::Row { places: 8 * bytes.len() + 1, scalar, m: m.into() }
+                let (scalar, places) = (Scalar::new(bytes.clone(), sign), 8 * bytes.len() + 1);
+                Call::Row { direction, scalar, m: m.into(), places }
             };
             let plus = judge.compare(&row(0));
             for sign in SIGNS {
@@ -97,13 +100,17 @@ fn joint_forms(judge: &mut Judge, k: &[u8], l: &[u8]) {
 /// A call for a sheet of two scalars.
 type Order = Box<dyn Fn(Scalar, Scalar) -> Call>;
 
-/// Plan J, a plan I, and the cheapest sheet under a limit.
-fn orders(random: &mut Random, room: usize) -> [Order; 3] {
+/// Plan J, a plan I from the rows of either kind, and the cheapest sheet under a limit.
+fn orders(random: &mut Random, room: usize) -> [Order; 4] {
     let (m1, m2) = (random.window().into(), random.window().into());
     let limit = random.pick(&[0, 1, 2, 3, 5, 8, 15, 31]);
+    let plan_i = |direction| -> Order {
+        Box::new(move |k, l| Call::PlanI { direction, k, l, m1, m2, room })
+    };
     [
         Box::new(move |k, l| Call::PlanJ { k, l, room }),
-        Box::new(move |k, l| Call::PlanI { k, l, m1, m2, room }),
+        plan_i(Direction::Up),
+        plan_i(Direction::Down),
         Box::new(move |k, l| Call::Cheapest { k, l, limit, room }),
     ]
 }
@@ -178,16 +185,21 @@ fn refusals(judge: &mut Judge, random: &mut Random) {
                     judge.compare_with(&order(k.clone(), l.clone()), &refused(1));
                 }
             }
-            judge.compare_with(&Call::Row { scalar: bad, m: 4, places: 0 }, &refused(1));
+            for direction in Direction::BOTH {
+                let scalar = bad.clone();
+                judge.compare_with(&Call::Row { direction, scalar, m: 4, places: 0 }, &refused(1));
+            }
         }
-        let row = |m, places| Call::Row { scalar: good.clone(), m, places };
-        judge.compare_with(&row(32, exact), &refused(2));
-        judge.compare_with(&row(31, exact - 1), &refused(3));
+        for direction in Direction::BOTH {
+            let row = |m, places| Call::Row { direction, scalar: good.clone(), m, places };
+            judge.compare_with(&row(32, exact), &refused(2));
+            judge.compare_with(&row(31, exact - 1), &refused(3));
+            let (k, l) = (good.clone(), zero.clone());
+            judge.compare_with(&Call::PlanI { direction, k, l, m1: 1, m2: 0, room }, &refused(2));
+        }
         let (k, l) = (good.clone(), zero.clone());
         judge
             .compare_with(&Call::Joint { k, l, k_places: exact, l_places: exact - 1 }, &refused(3));
-        let (k, l) = (good.clone(), zero.clone());
-        judge.compare_with(&Call::PlanI { k, l, m1: 1, m2: 0, room }, &refused(2));
         let (k, l) = (good.clone(), zero.clone());
         judge.compare_with(&Call::PlanJ { k, l, room: room - 1 }, &refused(3));
         let (k, l) = (good, zero);

@@ -4,6 +4,7 @@ use crate::judge::Judge;
 use crate::outcome::{Claim, Outcome};
 use reference::calls::Call;
 use reference::cheapest::additions;
+use reference::direction::Direction;
 use reference::least::Least;
 use reference::plan::{Plan, MOST_SLOTS};
 use reference::row;
@@ -19,16 +20,19 @@ pub fn run(judge: &mut Judge) {
     let bound = i32::from(BOUND);
     let rows: Vec<Least> = row::windows().map(|m| Least::of_rows(bound, m)).collect();
     let columns = Least::of_columns(bound);
-    compare_rows(judge, &rows);
+    for direction in Direction::BOTH {
+        compare_rows(judge, direction, &rows);
+    }
     compare_joint_forms(judge, &columns);
     compare_cheapest(judge, &rows, &columns);
 }
 
 /// Every scalar with every sign.
-fn compare_rows(judge: &mut Judge, rows: &[Least]) {
+fn compare_rows(judge: &mut Judge, direction: Direction, rows: &[Least]) {
     for (m, least) in row::windows().zip(rows) {
         for (size, sign) in (0..BOUND).flat_map(|size| SIGNS.map(|sign| (size, sign))) {
-            let call = Call::Row { scalar: Scalar::new([size], sign), m: m.into(), places: 9 };
+            let scalar = Scalar::new([size], sign);
+            let call = Call::Row { direction, scalar, m: m.into(), places: 9 };
             let expected = least.weight(value(size, sign), 0);
             judge.compare_claiming(&call, &|outcome| {
                 let counted = outcome.buffers[0].iter().filter(|&&digit| digit != 0).count();
