@@ -20,16 +20,23 @@ struct set {
     size_t most_bytes, sheet_bytes;
 };
 
+/* An archive may be older than the calls for rows from the top down, and than the gateway's. */
+#ifdef WITH_DOWN
+#define DOWN(call) call
+#else
+#define DOWN(call) NULL
+#endif
+
 static const struct set card = {
-    {sheets_row, sheets_joint, sheets_joint_codes, sheets_plan_j, sheets_plan_i, sheets_cheapest, sheets_read},
+    {sheets_row, DOWN(sheets_row_down), sheets_joint, sheets_joint_codes, sheets_plan_j, sheets_plan_i, DOWN(sheets_plan_i_down),
+     sheets_cheapest, sheets_read},
     &peer_card, 66, SHEETS_BYTES,
 };
 
-/* An archive may be older than the gateway's calls. */
 #ifdef WITH_GATEWAY
 static const struct set gateway = {
-    {sheets_gateway_row, sheets_gateway_joint, sheets_gateway_joint_codes, sheets_gateway_plan_j, sheets_gateway_plan_i,
-     sheets_gateway_cheapest, sheets_gateway_read},
+    {sheets_gateway_row, DOWN(sheets_gateway_row_down), sheets_gateway_joint, sheets_gateway_joint_codes, sheets_gateway_plan_j,
+     sheets_gateway_plan_i, DOWN(sheets_gateway_plan_i_down), sheets_gateway_cheapest, sheets_gateway_read},
     &peer_gateway, 128, SHEETS_GATEWAY_BYTES,
 };
 #endif
@@ -102,6 +109,11 @@ static uint64_t row(const struct calls *c, const struct work *w, const struct in
     return c->row(k_at(in, i), in->bytes, in->ks, w->a, out->k_digits, SHEETS_PLACES(in->bytes));
 }
 
+static uint64_t row_down(const struct calls *c, const struct work *w, const struct inputs *in, size_t i, struct output *out)
+{
+    return c->row_down(k_at(in, i), in->bytes, in->ks, w->a, out->k_digits, SHEETS_PLACES(in->bytes));
+}
+
 static uint64_t joint(const struct calls *c, const struct work *w, const struct inputs *in, size_t i, struct output *out)
 {
     size_t places = SHEETS_PLACES(in->bytes);
@@ -130,6 +142,11 @@ static uint64_t plan_i(const struct calls *c, const struct work *w, const struct
     return c->plan_i(k_at(in, i), in->bytes, in->ks, l_at(in, i), in->bytes, in->ls, w->a, w->b, out->sheet, in->set->sheet_bytes);
 }
 
+static uint64_t plan_i_down(const struct calls *c, const struct work *w, const struct inputs *in, size_t i, struct output *out)
+{
+    return c->plan_i_down(k_at(in, i), in->bytes, in->ks, l_at(in, i), in->bytes, in->ls, w->a, w->b, out->sheet, in->set->sheet_bytes);
+}
+
 static uint64_t cheapest(const struct calls *c, const struct work *w, const struct inputs *in, size_t i, struct output *out)
 {
     return c->cheapest(k_at(in, i), in->bytes, in->ks, l_at(in, i), in->bytes, in->ls, w->a, out->sheet, in->set->sheet_bytes);
@@ -142,22 +159,32 @@ static uint64_t read_sheet(const struct calls *c, const struct work *w, const st
     return c->read(in->sheets + in->start[i], in->start[i + 1] - in->start[i]);
 }
 
-enum { WIDEST = 6, LARGEST = 9 };
+enum { WIDEST = 9, LARGEST = 13 };
 
 static const struct work works[] = {
     {"row, m = 1", row, 1, 0, NULL},
     {"row, m = 5", row, 5, 0, NULL},
     {"row, m = 31", row, 31, 0, NULL},
+    {"row down, m = 1", row_down, 1, 0, NULL},
+    {"row down, m = 5", row_down, 5, 0, NULL},
+    {"row down, m = 31", row_down, 31, 0, NULL},
     {"joint", joint, 0, 0, NULL},
     {"joint, codes", joint_codes, 0, 0, NULL},
     {"plan J", plan_j, 0, 0, NULL},
     [WIDEST] = {"plan I 31, 31", plan_i, 31, 31, NULL},
+    {"plan I 31, 31, down", plan_i_down, 31, 31, NULL},
     {"cheapest, limit 0", cheapest, 0, 0, NULL},
     {"cheapest, limit 8", cheapest, 8, 0, NULL},
     [LARGEST] = {"cheapest, limit 31", cheapest, 31, 0, NULL},
     {"read, cheapest, limit 31", read_sheet, 0, 0, &works[LARGEST]},
     {"read, plan I 31, 31", read_sheet, 0, 0, &works[WIDEST]},
 };
+
+/* Whether the archive has the work's call. */
+static int is_there(const struct work *w)
+{
+    return card.library.row_down != NULL || (w->call != row_down && w->call != plan_i_down);
+}
 
 static void fill_sheets(struct inputs *in, const struct work *w, struct output *out)
 {
@@ -236,7 +263,7 @@ int main(void)
 
     printf("| work | bytes | library ns | plain C ns | ratio |\n|---|---|---|---|---|\n");
     for (size_t i = 0; i < sizeof works / sizeof *works; i++)
-        for (size_t j = 0; j < sizeof lengths / sizeof *lengths; j++) {
+        for (size_t j = 0; is_there(&works[i]) && j < sizeof lengths / sizeof *lengths; j++) {
             fill_scalars(&in, lengths[j]);
             check_signs(&works[i], &in, &out);
             measure(&works[i], &in, &out);

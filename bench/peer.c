@@ -46,6 +46,26 @@ static int is_window(uint32_t m)
     return m % 2 == 1 && m <= WIDEST;
 }
 
+/* The question that a row misses, and a sheet of plan I; 0 where they miss none. */
+
+static unsigned row_question(size_t n, uint32_t m, size_t places)
+{
+    if (!is_scalar(n))
+        return 1;
+    if (!is_window(m))
+        return 2;
+    return places < 8 * n + 1 ? 3 : 0;
+}
+
+static unsigned plan_i_question(size_t kn, size_t ln, uint32_t m1, uint32_t m2, size_t room)
+{
+    if (!is_scalar(kn) || !is_scalar(ln))
+        return 1;
+    if (!is_window(m1) || !is_window(m2))
+        return 2;
+    return room < SHEET_BYTES ? 3 : 0;
+}
+
 static size_t larger(size_t a, size_t b)
 {
     return a < b ? b : a;
@@ -151,6 +171,66 @@ static struct recoded recode_row(const struct bits *b, unsigned m, uint8_t *digi
     return row;
 }
 
+/* Four bytes, the first uppermost; zeros behind the last of n. */
+static uint32_t four_bytes(const uint8_t *bytes, size_t n, size_t at)
+{
+    uint32_t four = 0;
+
+    if (at + 4 <= n)
+        return (uint32_t)bytes[at] << 24 | (uint32_t)bytes[at + 1] << 16 | (uint32_t)bytes[at + 2] << 8 | bytes[at + 3];
+    for (size_t i = at; i < at + 4; i++)
+        four = four << 8 | (i < n ? bytes[i] : 0u);
+    return four;
+}
+
+/*
+ * Writes the row from the top down of a scalar's bytes into places that hold 0. `at` is the place that is reached, and `bit` the bit there;
+ * x has the bits below it, complemented if it is 1, so that the window begins at the first 1. Each caller settles whether the window is
+ * full, m = 2^(W-1) - 1, where no digit is beyond m.
+ */
+static inline __attribute__((always_inline)) struct recoded recode_from_top(const uint8_t *bytes, size_t n, unsigned negative, unsigned m,
+                                                                            int full, uint8_t *digits)
+{
+    struct recoded row = {0, 0};
+    unsigned w = width_of(m), bit = 0;
+    int at = 8 * (int)n;
+
+    while (at > 0 || bit) {
+        unsigned read = 8 * (unsigned)n - (unsigned)at, minus = bit ^ negative, width = w, zeros, top, size, twos;
+        uint32_t x = (four_bytes(bytes, n, read / 8) ^ -bit) << read % 8;
+
+        /* Where every bit is the same, the digits are 0. Of the 25 bits that are there at least the last six stay for the next window. */
+        if (x >> 13 == 0) {
+            at -= 19;
+            continue;
+        }
+        zeros = (unsigned)__builtin_clz(x);
+        top = x << zeros >> (32 - w);
+        size = (top + 1) >> 1;
+        if (!full) {
+            unsigned beyond = size & (m - size) >> 31;
+
+            width -= beyond;
+            top >>= beyond;
+            size = (top + 1) >> 1;
+        }
+        bit ^= top & 1;
+        at -= (int)(zeros + width);
+        twos = (unsigned)__builtin_ctz(size);
+        digits[at + 1 + (int)twos] = (uint8_t)((size >> twos ^ -minus) + minus);
+        if (row.weight++ == 0)
+            row.places = (unsigned)at + 2 + twos;
+    }
+    return row;
+}
+
+static struct recoded recode_down(const uint8_t *bytes, size_t n, uint32_t sign, unsigned m, uint8_t *digits)
+{
+    if ((m & (m + 1)) == 0)
+        return recode_from_top(bytes, n, sign != 0, m, 1, digits);
+    return recode_from_top(bytes, n, sign != 0, m, 0, digits);
+}
+
 /* In bit 0, for an odd x, whether its sign turns: it is 3 or 5 by 8, and y is 2 by 4. */
 static unsigned turned(unsigned x, unsigned y)
 {
@@ -231,20 +311,27 @@ static uint64_t answer(struct recoded r)
 
 static uint64_t peer_row(const uint8_t *scalar, size_t n, uint32_t sign, uint32_t m, uint8_t *digits, size_t places)
 {
+    unsigned question = row_question(n, m, places);
     struct recoded row;
     struct bits b;
 
-    if (!is_scalar(n))
-        return refusal(1, 0);
-    if (!is_window(m))
-        return refusal(2, 0);
-    if (places < 8 * n + 1)
-        return refusal(3, 0);
+    if (question)
+        return refusal(question, 0);
     b = bits_of(scalar, n, sign);
     memset(digits, 0, places);
     row = recode_row(&b, m, digits);
     negate(&b, digits, row.places);
     return answer(row);
+}
+
+static uint64_t peer_row_down(const uint8_t *scalar, size_t n, uint32_t sign, uint32_t m, uint8_t *digits, size_t places)
+{
+    unsigned question = row_question(n, m, places);
+
+    if (question)
+        return refusal(question, 0);
+    memset(digits, 0, places);
+    return answer(recode_down(scalar, n, sign, m, digits));
 }
 
 static uint64_t peer_joint(const uint8_t *k, size_t kn, uint32_t ks, const uint8_t *l, size_t ln, uint32_t ls, uint8_t *k_digits,
@@ -479,21 +566,28 @@ static struct recoded recode_plan(struct plan plan, const struct bits *k, const 
     return side_by_side(recode_row(k, plan.m1, k_digits), recode_row(l, plan.m2, l_digits));
 }
 
-/* Writes the sheet of a plan and returns its length and its additions. */
-static uint64_t write_sheet(struct plan plan, const struct bits *k, const struct bits *l, uint8_t *sheet)
+/* Puts the sheet of a plan with these digits and returns its length and its additions. */
+static uint64_t put_sheet(uint8_t *sheet, struct plan plan, const struct bits *k, const struct bits *l, struct recoded r,
+                          const uint8_t *k_digits, const uint8_t *l_digits)
 {
-    uint8_t k_digits[PLACES] = {0}, l_digits[PLACES] = {0};
-    struct recoded r = recode_plan(plan, k, l, k_digits, l_digits);
     unsigned additions = table_additions(plan) + less_one(r.weight);
     unsigned doublings = table_doublings(plan) + less_one(r.places);
     uint8_t *p = put_header(sheet, plan, additions, doublings, k, l);
 
-    negate(k, k_digits, r.places);
-    negate(l, l_digits, r.places);
     p = put_tables(p, plan);
     p = put_places(p, plan.joint, k_digits, l_digits, r.places);
     p = put_letter(p, 'E');
     return written((size_t)(p - sheet), additions);
+}
+
+static uint64_t write_sheet(struct plan plan, const struct bits *k, const struct bits *l, uint8_t *sheet)
+{
+    uint8_t k_digits[PLACES] = {0}, l_digits[PLACES] = {0};
+    struct recoded r = recode_plan(plan, k, l, k_digits, l_digits);
+
+    negate(k, k_digits, r.places);
+    negate(l, l_digits, r.places);
+    return put_sheet(sheet, plan, k, l, r, k_digits, l_digits);
 }
 
 static uint64_t peer_plan_j(const uint8_t *k, size_t kn, uint32_t ks, const uint8_t *l, size_t ln, uint32_t ls, uint8_t *sheet,
@@ -513,17 +607,30 @@ static uint64_t peer_plan_j(const uint8_t *k, size_t kn, uint32_t ks, const uint
 static uint64_t peer_plan_i(const uint8_t *k, size_t kn, uint32_t ks, const uint8_t *l, size_t ln, uint32_t ls, uint32_t m1,
                             uint32_t m2, uint8_t *sheet, size_t room)
 {
+    unsigned question = plan_i_question(kn, ln, m1, m2, room);
     struct bits kb, lb;
 
-    if (!is_scalar(kn) || !is_scalar(ln))
-        return refusal(1, 0);
-    if (!is_window(m1) || !is_window(m2))
-        return refusal(2, 0);
-    if (room < SHEET_BYTES)
-        return refusal(3, 0);
+    if (question)
+        return refusal(question, 0);
     kb = bits_of(k, kn, ks);
     lb = bits_of(l, ln, ls);
     return write_sheet(plan_i(m1, m2), &kb, &lb, sheet);
+}
+
+static uint64_t peer_plan_i_down(const uint8_t *k, size_t kn, uint32_t ks, const uint8_t *l, size_t ln, uint32_t ls, uint32_t m1,
+                                 uint32_t m2, uint8_t *sheet, size_t room)
+{
+    unsigned question = plan_i_question(kn, ln, m1, m2, room);
+    uint8_t k_digits[PLACES] = {0}, l_digits[PLACES] = {0};
+    struct bits kb, lb;
+    struct recoded r;
+
+    if (question)
+        return refusal(question, 0);
+    kb = bits_of(k, kn, ks);
+    lb = bits_of(l, ln, ls);
+    r = side_by_side(recode_down(k, kn, ks, m1, k_digits), recode_down(l, ln, ls, m2, l_digits));
+    return put_sheet(sheet, plan_i(m1, m2), &kb, &lb, r, k_digits, l_digits);
 }
 
 /* ---- the cheapest sheet ---- */
@@ -927,4 +1034,6 @@ static uint64_t peer_read(const uint8_t *sheet, size_t n)
     return 0;
 }
 
-const struct calls CALLS = {peer_row, peer_joint, peer_joint_codes, peer_plan_j, peer_plan_i, peer_cheapest, peer_read};
+const struct calls CALLS = {
+    peer_row, peer_row_down, peer_joint, peer_joint_codes, peer_plan_j, peer_plan_i, peer_plan_i_down, peer_cheapest, peer_read,
+};
