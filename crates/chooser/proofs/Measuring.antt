@@ -17,6 +17,7 @@ use Rattle.recode.specs.Call.{placesWritten, weightWritten, wroteRow, wroteColu
 use Rattle.recode.specs.Call.Joint as JointAnswers
 use Rattle.recode.specs.Call.Row as RowAnswers
 use Rattle.recode.specs.Call.Short.{row-short, joint-short}
+use Rattle.recode.specs.Call.Standing.{row-kept}
 use Rattle.recode.specs.declared.answer.Recoded.{Recoded}
 use Rattle.sheet.specs.Questions.Planned.{of-window}
 use Rattle.chooser.specs.declared.sizes.Size.{Size}
@@ -50,7 +51,7 @@ module _ (s : List ℕ) (m : ℕ) (buffer : List ℕ) {r : Recoded} (answer : r 
   unfolding signedScalar
   row-measured h l o t room =
       as-told (answer
-      ∙ sym (RowAnswers.written gateway s 0 m buffer (bytes-sized gateway s (h, l)) (of-window (record { odd = o; within = t })) (wroteRow (row m (pos (scalar s))))
+      ∙ sym (RowAnswers.written (row-kept m (pos (scalar s))) gateway s buffer (bytes-sized gateway s (h, l)) (of-window (record { odd = o; within = t })) (wroteRow (row m (pos (scalar s))))
       (filled (row m (pos (scalar s))) buffer) room refl refl .0))
 
 -- the size of a joint form

@@ -3,6 +3,7 @@ pub mod Length
 pub mod Value
 pub mod Sized
 pub mod Signed
+pub mod Zeros
 use mathlib.Core.Path.{_≡_}
 use mathlib.Core.Bool.{Bool, _&&_}
 use mathlib.Core.List.{List, [], _∷_, reverse}

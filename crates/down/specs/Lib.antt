@@ -1,3 +1,5 @@
 pub mod Down
-pub mod Samples
+pub mod Call
 pub mod Promise
+pub mod Samples
+pub mod Body

@@ -1,16 +1,19 @@
--- What is promised of the row from the top down, in one place, for every window m and for numbers of either sign. The definitions are those of
--- Down, of forms and of digits; the proofs are in the files that the answers name.
+-- What is promised of the row from the top down, in one place, for every window m and for numbers of either sign; and of the bytes that a call
+-- writes. The definitions are those of Down and Call, of forms and of digits; the proofs are in the files that the answers name.
 use mathlib.Core.Path.{_≡_}
 use mathlib.Core.Logic.{_≢_}
 use mathlib.Core.List.{List, [], map}
 use Prim.Native.Nat.{ℕ, suc, _+_, _≤_}
-use native.Mathlib.Omega.{arith}
 use lib.IntN.{ℤ, pos, negℤ, natAbs}
 use lib.ListN.{length, getD}
+use Rattle.digits.specs.Buffer.{rowBelow}
+use Rattle.digits.specs.declared.limits.Limits.{Limits}
 use Rattle.digits.specs.Row.{value, weight, Over}
-use Rattle.digits.specs.Scalar.{bitLength}
-use Rattle.forms.specs.Promise.{row-fewest}
+use Rattle.digits.specs.Scalar.{signedScalar, bitLength}
 use Rattle.forms.specs.Row.{row}
+use Rattle.recode.specs.declared.answer.Recoded.the-variants.{Written}
+use Rattle.down.specs.Call.{downAnswer, downBuffer, DownOf}
+use Rattle.down.specs.Call.Row as Call
 use Rattle.down.specs.Down.{places, DownRule, down}
 use Rattle.down.specs.Down.Row as Row
 use Rattle.down.specs.Down.Unfold as Unfold
@@ -44,7 +47,7 @@ down-weight = Row.down-weight
 
 -- so no row over the same digits has fewer
 pub down-fewest : (m : ℕ) (c : ℤ) (ds : List ℤ) → 1 ≤ m → Over m ds → value ds ≡ c → weight (down m c) ≤ weight ds
-down-fewest m c ds h o e = omega (arith, down-weight m c h, row-fewest m c ds h o e)
+down-fewest = Row.down-fewest
 
 -- zero has the empty row
 pub down-zero : (m : ℕ) → 1 ≤ m → down m (pos 0) ≡ []
@@ -53,3 +56,8 @@ down-zero = Row.down-zero
 -- the row of a negated number has each digit negated
 pub down-negates : (m : ℕ) (c : ℤ) → 1 ≤ m → down m (negℤ c) ≡ map negℤ (down m c)
 down-negates = Row.down-negates
+
+-- the row that a call writes is this one, of the scalar with its sign
+pub down-written : (limits : Limits) (s : List ℕ) (sign m : ℕ) (buffer : List ℕ) (n w : ℕ) → downAnswer limits s sign m (length buffer) ≡ Written n w
+    → DownOf m (signedScalar s sign) w (rowBelow n (downBuffer limits s sign m buffer))
+down-written = Call.down-written

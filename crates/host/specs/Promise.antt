@@ -8,10 +8,11 @@ use Rattle.digits.specs.Scalar.{Bytes}
 use Rattle.digits.specs.declared.limits.Limits.{Limits}
 use Rattle.recode.specs.Call as Recoding
 use Rattle.codes.specs.Call.{codesAnswer}
+use Rattle.down.specs.Call.{downAnswer}
 use Rattle.recode.specs.Call.{rowAnswer, jointAnswer}
 use Rattle.recode.specs.declared.answer.Recoded.{Recoded}
 use Rattle.writer.specs.Call as Writing
-use Rattle.writer.specs.Call.{jAnswer, iAnswer}
+use Rattle.writer.specs.Call.{jAnswer, iAnswer, iDownAnswer}
 use Rattle.writer.specs.declared.answer.Sheet.{Sheet}
 use Rattle.chooser.specs.Call.{cheapestAnswer}
 use Rattle.sheet.specs.Answer.{answer}
@@ -35,7 +36,7 @@ use Rattle.host.specs.Told.{
   sheetsLine,
 }
 use Rattle.host.specs.Told.Lines.{line-within}
-use Rattle.host.specs.Told.Parts.{Tellable, row-fits, joint-fits, codes-fits, j-fits, i-fits, cheapest-fits}
+use Rattle.host.specs.Told.Parts.{Tellable, row-fits, down-fits, joint-fits, codes-fits, j-fits, i-fits, i-down-fits, cheapest-fits}
 
 -- a row or a joint form
 pub record RecodedParts (r : Recoded) : Type 0 where
@@ -79,6 +80,10 @@ module _ (limits : Limits) (tellable : Tellable limits) where
   pub row-parts : (s : List ℕ) (sign m places : ℕ) → Bytes s → RecodedParts (rowAnswer limits s sign m places)
   row-parts s sign m places h = recoded-parts (rowAnswer limits s sign m places) (row-fits limits tellable s sign m places h)
 
+  -- a row from the top down
+  pub down-parts : (s : List ℕ) (sign m places : ℕ) → Bytes s → RecodedParts (downAnswer limits s sign m places)
+  down-parts s sign m places h = recoded-parts (downAnswer limits s sign m places) (down-fits limits tellable s sign m places h)
+
   -- a joint form
   pub joint-parts : (k : List ℕ) (k-sign : ℕ) (l : List ℕ) (l-sign : ℕ) (places places′ : ℕ) → Bytes k → Bytes l → RecodedParts (jointAnswer limits k k-sign l l-sign places places′)
   joint-parts k k-sign l l-sign places places′ h g = recoded-parts (jointAnswer limits k k-sign l l-sign places places′) (joint-fits limits tellable k k-sign l l-sign places places′ h g)
@@ -96,6 +101,10 @@ module _ (limits : Limits) (tellable : Tellable limits) where
     -- of plan I
     pub i-parts : (m1 m2 room : ℕ) → SheetParts (iAnswer limits k k-sign l l-sign m1 m2 room)
     i-parts m1 m2 room = sheet-parts (iAnswer limits k k-sign l l-sign m1 m2 room) (i-fits limits tellable k k-sign l l-sign k-bytes l-bytes m1 m2 room)
+
+    -- of plan I, from rows from the top down
+    pub i-down-parts : (m1 m2 room : ℕ) → SheetParts (iDownAnswer limits k k-sign l l-sign m1 m2 room)
+    i-down-parts m1 m2 room = sheet-parts (iDownAnswer limits k k-sign l l-sign m1 m2 room) (i-down-fits limits tellable k k-sign l l-sign k-bytes l-bytes m1 m2 room)
 
     -- the cheapest
     pub cheapest-parts : (limit room : ℕ) → SheetParts (cheapestAnswer limits k k-sign l l-sign limit room)

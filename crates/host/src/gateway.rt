@@ -4,8 +4,9 @@ ghost use lib.ListN.{length};
 ghost use Rattle.digits.specs.Limits.{gateway};
 ghost use Rattle.digits.specs.Two.{P, Q};
 ghost use Rattle.recode.specs.Call.{rowAnswer, rowBuffer, jointAnswer, jointBuffer};
+ghost use Rattle.down.specs.Call.{downAnswer, downBuffer};
 ghost use Rattle.codes.specs.Call.{codesAnswer, codesDigits, codesBuffer};
-ghost use Rattle.writer.specs.Call.{jAnswer, jBuffer, iAnswer, iBuffer};
+ghost use Rattle.writer.specs.Call.{jAnswer, jBuffer, iAnswer, iBuffer, iDownAnswer, iDownBuffer};
 ghost use Rattle.chooser.specs.Call.{cheapestAnswer, cheapestBuffer};
 ghost use Rattle.sheet.specs.Answer.{answer};
 ghost use Rattle.reader.specs.Judgement.{judgement};
@@ -18,6 +19,15 @@ pub extern "C" fn sheets_gateway_row(scalar: &[u8], sign: u32, m: u32, digits: &
     ensures buffer { λ _. ⌜ now (digits .exit) ≡ rowBuffer gateway (now (scalar .entry)) sign m (now (digits .entry)) ⌝ }
 {
     crate::told::recoded(recode::gateway_row(scalar, sign, m, digits))
+}
+
+// The row of a scalar for the window m, from the top down.
+#[no_mangle]
+pub extern "C" fn sheets_gateway_row_down(scalar: &[u8], sign: u32, m: u32, digits: &mut [u8]) -> u64
+    ensures answer { λ r. ⌜ r ≡ toldRecoded (downAnswer gateway (now (scalar .entry)) sign m (length (now (digits .entry)))) ⌝ }
+    ensures buffer { λ _. ⌜ now (digits .exit) ≡ downBuffer gateway (now (scalar .entry)) sign m (now (digits .entry)) ⌝ }
+{
+    crate::told::recoded(down::gateway_row_down(scalar, sign, m, digits))
 }
 
 // The joint sparse form of two scalars.
@@ -97,6 +107,23 @@ pub extern "C" fn sheets_gateway_plan_i(
     ensures buffer { λ _. ⌜ now (sheet .exit) ≡ iBuffer gateway (now (k .entry)) «k_sign» (now (l .entry)) «l_sign» m1 m2 (now (sheet .entry)) ⌝ }
 {
     crate::told::written(writer::gateway_plan_i(k, k_sign, l, l_sign, m1, m2, sheet))
+}
+
+// The same from rows that are worked out from the top down.
+#[no_mangle]
+pub extern "C" fn sheets_gateway_plan_i_down(
+    k: &[u8],
+    k_sign: u32,
+    l: &[u8],
+    l_sign: u32,
+    m1: u32,
+    m2: u32,
+    sheet: &mut [u8],
+) -> u64
+    ensures answer { λ r. ⌜ r ≡ toldSheet (iDownAnswer gateway (now (k .entry)) «k_sign» (now (l .entry)) «l_sign» m1 m2 (length (now (sheet .entry)))) ⌝ }
+    ensures buffer { λ _. ⌜ now (sheet .exit) ≡ iDownBuffer gateway (now (k .entry)) «k_sign» (now (l .entry)) «l_sign» m1 m2 (now (sheet .entry)) ⌝ }
+{
+    crate::told::written(writer::gateway_plan_i_down(k, k_sign, l, l_sign, m1, m2, sheet))
 }
 
 // The cheapest sheet for k and l that needs no more slots than the limit.

@@ -3,17 +3,18 @@ use mathlib.Core.Path.{_≡_, refl, sym, ap, _∙_}
 use mathlib.Core.Logic.{_≢_}
 use mathlib.Core.List.{List, [], _∷_}
 use Prim.Native.Nat.{ℕ, zero, suc, _+_, _-_, _*_, _/_, _%_, _^_, _≤_, _<_}
-use native.Mathlib.Nat.{mul-le-mul-left, lt-of-not-le, le-of-suc-le-suc, mul-div-cancel-left, pow-suc, zero-div}
+use native.Mathlib.Nat.{mul-le-mul-left, lt-of-not-le, le-of-suc-le-suc, mul-div-cancel-left, zero-div}
 use native.Mathlib.Numerals.{add-one, sub-one}
 use native.Mathlib.Omega.{arith}
 use lib.Bits.{bitOr, or-step, or-mod, or-shr, or-add-and, and-le-l, and-le-r}
-use lib.Count.{trailingZeros, under}
+use lib.Count.{trailingZeros}
 use lib.ListN.{length, getD, drop, drop-of-length-le}
 use lib.Pow.{pow-add, pow-pos, pow-mono, shl-exact, split}
 use lib.IntN.{ℤ, pos, negsuc, natAbs, _-ℤ_, pos-ne-negsuc}
 use Rattle.digits.specs.Integer.{up, down, half}
 use Rattle.digits.specs.Integer.Parts.{difference, size}
 use Rattle.digits.specs.Scalar.{little}
+use Rattle.digits.specs.Scalar.Zeros.{odd-part}
 
 -- the bytes from a place on are the byte there and those above it, also past the end
 pub byte-step : (bytes : List ℕ) (at next : ℕ) → next ≡ suc at → little (drop at bytes) ≡ getD bytes at 0 + 256 * little (drop next bytes)
@@ -52,21 +53,6 @@ next-word w k x a b e = rw (more-bits, ← e) (omega arith)
 pub no-byte : (bytes : List ℕ) (at j k x : ℕ) → length bytes ≤ at → x + 2 ^ j * little (drop at bytes) ≡ x + 2 ^ k * little (drop at bytes)
 unfolding little
 no-byte bytes at j k x h = rw (drop-of-length-le bytes h) (omega arith)
-
--- one zero more
-doubled : (n t q : ℕ) → n % 2 ≡ 0 → n / 2 ≡ 2 ^ t * q → n ≡ 2 ^ suc t * q
-doubled n t q e h = rw pow-suc (omega arith)
-
--- a number is its trailing zeros' power times an odd number
-odd-part : (k n : ℕ) → 0 < n → n < 2 ^ k → (q : ℕ) × (n ≡ 2 ^ trailingZeros k n * q) × (q % 2 ≡ 1)
-unfolding trailingZeros
-odd-part zero n p h = absurd (omega arith)
-odd-part (suc k) n p h = go (n % 2) refl (λ q. odd-part k (n / 2) q (omega arith))
-  where
-    go : (r : ℕ) → n % 2 ≡ r → (0 < n / 2 → (q : ℕ) × (n / 2 ≡ 2 ^ trailingZeros k (n / 2) * q) × (q % 2 ≡ 1))
-        → (q : ℕ) × (n ≡ 2 ^ under r (trailingZeros k (n / 2)) * q) × (q % 2 ≡ 1)
-    go zero e rest = let t = rest (omega arith) in (t .0, doubled n (trailingZeros k (n / 2)) (t .0) e (t .1), t .2)
-    go (suc r) e rest = (n, omega arith, omega arith)
 
 -- what `zeros` answers of n, which has b low bits
 abbrev pub Zeros : ℕ → ℕ → ℕ → Type 0

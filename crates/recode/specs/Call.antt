@@ -4,6 +4,7 @@ pub mod Standing
 pub mod Short
 pub mod Row
 pub mod Joint
+pub mod Lent
 use mathlib.Core.Path.{_≡_}
 use mathlib.Core.Logic.{_≢_}
 use mathlib.Core.Bool.{Bool, _&&_, cond}
@@ -74,19 +75,26 @@ left (Written n w) ds buffer = filled ds buffer
 abbrev pub rowQuestion : Limits → List ℕ → ℕ → ℕ → ℕ
 rowQuestion limits s m places = missed ((1, sized limits s) ∷ (2, isWindow m) ∷ (3, roomy (length s) places) ∷ [])
 
--- the answer: the first question missed, or the row's length and weight
-unfoldable pub rowAnswer : Limits → List ℕ → ℕ → ℕ → ℕ → Recoded
-rowAnswer limits s sign m places =
-    cond (sized limits s) (cond (isWindow m) (cond (roomy (length s) places) (wroteRow (row m (signedScalar s sign))) NoRoom) BadWindow) BadScalar
+-- the answer of a call that writes the row ds: the first question missed, or the row's length and weight
+unfoldable pub answerWith : Limits → List ℕ → ℕ → List ℤ → ℕ → Recoded
+answerWith limits s m ds places =
+    cond (sized limits s) (cond (isWindow m) (cond (roomy (length s) places) (wroteRow ds) NoRoom) BadWindow) BadScalar
 
 -- the buffer
-unfoldable pub rowBuffer : Limits → List ℕ → ℕ → ℕ → List ℕ → List ℕ
-rowBuffer limits s sign m buffer = left (rowAnswer limits s sign m (length buffer)) (row m (signedScalar s sign)) buffer
+unfoldable pub bufferWith : Limits → List ℕ → ℕ → List ℤ → List ℕ → List ℕ
+bufferWith limits s m ds buffer = left (answerWith limits s m ds (length buffer)) ds buffer
 
--- what is promised of a row ds for the window m and the scalar c that is said to have the weight w
-pub record RowOf (m : ℕ) (c : ℤ) (w : ℕ) (ds : List ℤ) : Type 0 where
-  -- it is 01's
-  pub rule : RowRule m c ds
+-- 01's row
+abbrev pub rowAnswer : Limits → List ℕ → ℕ → ℕ → ℕ → Recoded
+rowAnswer limits s sign m places = answerWith limits s m (row m (signedScalar s sign)) places
+
+abbrev pub rowBuffer : Limits → List ℕ → ℕ → ℕ → List ℕ → List ℕ
+rowBuffer limits s sign m buffer = bufferWith limits s m (row m (signedScalar s sign)) buffer
+
+-- what is promised of a row ds for the window m and the scalar c that is said to have the weight w, where the row is to be R
+pub record RowBy (R : List ℤ → Type 0) (m : ℕ) (c : ℤ) (w : ℕ) (ds : List ℤ) : Type 0 where
+  -- it is
+  pub rule : R ds
   -- its digits are the window's, it reads back to c, its top digit is not 0, and it has no more places than c's bit length plus one
   pub digits : Over m ds
   pub reads : value ds ≡ c
@@ -97,11 +105,18 @@ pub record RowOf (m : ℕ) (c : ℤ) (w : ℕ) (ds : List ℤ) : Type 0 where
   pub fewest : (es : List ℤ) → Over m es → value es ≡ c → w ≤ weight es
 
 -- where n places were written, the row below n is such a one
+abbrev pub PromisedBy : (List ℤ → Type 0) → ℕ → ℤ → Recoded → List ℕ → Type 0
+PromisedBy R m c BadScalar buffer = Unit {0}
+PromisedBy R m c BadWindow buffer = Unit {0}
+PromisedBy R m c NoRoom buffer = Unit {0}
+PromisedBy R m c (Written n w) buffer = RowBy R m c w (rowBelow n buffer)
+
+-- the same where the row is to be 01's
+abbrev pub RowOf : ℕ → ℤ → ℕ → List ℤ → Type 0
+RowOf m c w ds = RowBy (RowRule m c) m c w ds
+
 abbrev pub RowPromised : ℕ → ℤ → Recoded → List ℕ → Type 0
-RowPromised m c BadScalar buffer = Unit {0}
-RowPromised m c BadWindow buffer = Unit {0}
-RowPromised m c NoRoom buffer = Unit {0}
-RowPromised m c (Written n w) buffer = RowOf m c w (rowBelow n buffer)
+RowPromised m c r buffer = PromisedBy (RowRule m c) m c r buffer
 
 -- ── a joint form ────────────────────────────────────────────────────────────────────────────
 

@@ -24,7 +24,7 @@ use Rattle.forms.specs.Joint.{joint}
 use Rattle.forms.specs.Joint.Value.{joint-small}
 use Rattle.forms.specs.Row as Row
 use Rattle.forms.specs.Row.Value.{row-digits}
-use Rattle.recode.specs.Call.{roomy, placesWritten, weightWritten, wroteRow, wroteColumns, filled, left, rowAnswer, rowBuffer, jointAnswer, jointBuffer}
+use Rattle.recode.specs.Call.{roomy, placesWritten, weightWritten, wroteRow, wroteColumns, filled, left, answerWith, bufferWith, jointAnswer, jointBuffer}
 use Rattle.recode.specs.declared.answer.Recoded.{Recoded}
 use Rattle.sheet.specs.declared.Plan.{Plan}
 use Rattle.sheet.specs.declared.Plan.the-variants.{J, I}
@@ -35,6 +35,9 @@ use Rattle.written.specs.Makes.{Makes}
 use Rattle.written.specs.Valid.{Valid, window-positive}
 use Rattle.written.specs.Written.{digits, sheetOf}
 use Rattle.written.specs.Written.Columns.{paired-length, paired-weight}
+use Rattle.writer.specs.declared.rows.Rows.{Rows}
+use Rattle.writer.specs.Rows.{rowBy}
+use Rattle.writer.specs.Rows.Made.{rows-kept}
 use Rattle.writer.specs.declared.answer.Sheet.{Sheet}
 use Rattle.writer.specs.Body.Parts.{Bounded, Ready}
 use Rattle.writer.specs.Call as Writing
@@ -142,31 +145,37 @@ module _ {m1 m2 : ℕ} (windows : (isWindow m1 && isWindow m2) ≡ true) {xs ys 
         heavy = h ∙ ap₂ (λ (a b : ℕ). a + b) (ap weightWritten e ∙ sym (heavy .0)) (ap weightWritten f ∙ sym (heavy .1));
       }
 
--- ── the row call ────────────────────────────────────────────────────────────────────────────
+-- ── the row calls ───────────────────────────────────────────────────────────────────────────
 
-module _ (s : List ℕ) (sign m : ℕ) (size : sized gateway s ≡ true) (window : isWindow m ≡ true) where
-  pub row-answer : {places : ℕ} → 8 * length s + 1 ≤ places → rowAnswer gateway s sign m places ≡ wroteRow (Row.row m (signedScalar s sign))
-  unfolding rowAnswer
+module _ (s : List ℕ) (m : ℕ) (ds : List ℤ) (size : sized gateway s ≡ true) (window : isWindow m ≡ true) where
+  row-answer : {places : ℕ} → 8 * length s + 1 ≤ places → answerWith gateway s m ds places ≡ wroteRow ds
+  unfolding answerWith
   row-answer {places} room = rw (size, window, room-enough (length s) places room)
 
-  pub row-filled : (b : List ℕ) → 8 * length s + 1 ≤ length b → rowBuffer gateway s sign m b ≡ filled (Row.row m (signedScalar s sign)) b
-  unfolding rowBuffer
-  row-filled b room = ap (λ (a : Recoded). left a (Row.row m (signedScalar s sign)) b) (row-answer room)
+  row-filled : (b : List ℕ) → 8 * length s + 1 ≤ length b → bufferWith gateway s m ds b ≡ filled ds b
+  unfolding bufferWith
+  row-filled b room = ap (λ (a : Recoded). left a ds b) (row-answer room)
 
-module _ (k : List ℕ) (k-sign : ℕ) (l : List ℕ) (l-sign : ℕ) (p q : List ℕ) (m1 m2 : ℕ) (sizes : (sized gateway k && sized gateway l) ≡ true) (windows : (isWindow m1 && isWindow m2) ≡ true) (rooms : Rooms k l (length p) (length q)) where
-  -- after two of them the plan's digits stand in the buffers
-  pub row-calls : {r s : Recoded} {p′ q′ : List ℕ} {places counted : ℕ} → length (digits (I m1 m2) (signedScalar k k-sign) (signedScalar l l-sign)) ≤ 8 * max (length k) (length l) + 1
-      → r ≡ rowAnswer gateway k k-sign m1 (length p) → s ≡ rowAnswer gateway l l-sign m2 (length q) → p′ ≡ rowBuffer gateway k k-sign m1 p → q′ ≡ rowBuffer gateway l l-sign m2 q
-      → places ≡ max (placesWritten r) (placesWritten s) → counted ≡ weightWritten r + weightWritten s → Standing (I m1 m2) p′ q′ (digits (I m1 m2) (signedScalar k k-sign) (signedScalar l l-sign)) places counted
-  unfolding digits
+module _ (rows : Rows) (k : List ℕ) (k-sign : ℕ) (l : List ℕ) (l-sign : ℕ) (p q : List ℕ) (m1 m2 : ℕ) (sizes : (sized gateway k && sized gateway l) ≡ true) (windows : (isWindow m1 && isWindow m2) ≡ true) (rooms : Rooms k l (length p) (length q)) where
+  -- the two rows
+  abbrev xs : List ℤ
+  xs = rowBy rows m1 (signedScalar k k-sign)
+
+  abbrev ys : List ℤ
+  ys = rowBy rows m2 (signedScalar l l-sign)
+
+  -- after two of them the columns of the rows stand in the buffers
+  pub row-calls : {r s : Recoded} {p′ q′ : List ℕ} {places counted : ℕ} → length (paired xs ys) ≤ 8 * max (length k) (length l) + 1
+      → r ≡ answerWith gateway k m1 xs (length p) → s ≡ answerWith gateway l m2 ys (length q) → p′ ≡ bufferWith gateway k m1 xs p → q′ ≡ bufferWith gateway l m2 ys q
+      → places ≡ max (placesWritten r) (placesWritten s) → counted ≡ weightWritten r + weightWritten s → Standing (I m1 m2) p′ q′ (paired xs ys) places counted
   row-calls few e f x y =
       let (u, v) = both (sized gateway k) (sized gateway l) sizes in
       let (w, z) = both (isWindow m1) (isWindow m2) windows in
       let first : 8 * length k + 1 ≤ length p = omega (arith, rooms .0) in
       let second : 8 * length l + 1 ≤ length q = omega (arith, rooms .1) in
-      rows-standing windows (row-digits m1 (signedScalar k k-sign) (window-positive (window-of m1 w))) (row-digits m2 (signedScalar l l-sign) (window-positive (window-of m2 z)))
+      rows-standing windows (rows-kept rows m1 (signedScalar k k-sign) w .digits) (rows-kept rows m2 (signedScalar l l-sign) z .digits)
       p q (omega (arith, few, rooms .0)) (omega (arith, few, rooms .1))
-      (e ∙ row-answer k k-sign m1 u w first) (f ∙ row-answer l l-sign m2 v z second) (x ∙ row-filled k k-sign m1 u w p first) (y ∙ row-filled l l-sign m2 v z q second)
+      (e ∙ row-answer k m1 xs u w first) (f ∙ row-answer l m2 ys v z second) (x ∙ row-filled k m1 xs u w p first) (y ∙ row-filled l m2 ys v z q second)
 
 -- ── the joint call ──────────────────────────────────────────────────────────────────────────
 

@@ -20,6 +20,9 @@ use Rattle.sheet.specs.Answer.{Accepted, sheetSlots, sheetAdditions}
 use Rattle.sheet.specs.Plan.{slots}
 use Rattle.written.specs.Written.{digits, sheetOf, additionsOf, written}
 use Rattle.writer.specs.declared.answer.Sheet.{Sheet}
+use Rattle.writer.specs.declared.rows.Rows.{Rows}
+use Rattle.writer.specs.declared.rows.Rows.the-variants.{Down}
+use Rattle.writer.specs.Rows.{columnsBy}
 use Rattle.writer.specs.declared.answer.Sheet.the-variants.{BadScalar, BadWindow, NoRoom, BadLimit, Written}
 
 -- the number of the question missed, 0 where none is
@@ -113,7 +116,16 @@ abbrev pub columnsBuffer : Limits → List ℕ → ℕ → List ℕ → ℕ → 
 columnsBuffer limits k k-sign l l-sign m1 m2 cs buffer =
     left (columnsAnswer limits k k-sign l l-sign m1 m2 cs (length buffer)) (sheetOf (I m1 m2) cs (signedScalar k k-sign) (signedScalar l l-sign)) buffer
 
--- the columns are the digits that the plan takes for k and l
+-- the columns are those of rows of a kind
+abbrev pub rowsAnswer : Rows → Limits → List ℕ → ℕ → List ℕ → ℕ → ℕ → ℕ → ℕ → Sheet
+rowsAnswer rows limits k k-sign l l-sign m1 m2 room =
+    columnsAnswer limits k k-sign l l-sign m1 m2 (columnsBy rows m1 m2 (signedScalar k k-sign) (signedScalar l l-sign)) room
+
+abbrev pub rowsBuffer : Rows → Limits → List ℕ → ℕ → List ℕ → ℕ → ℕ → ℕ → List ℕ → List ℕ
+rowsBuffer rows limits k k-sign l l-sign m1 m2 buffer =
+    columnsBuffer limits k k-sign l l-sign m1 m2 (columnsBy rows m1 m2 (signedScalar k k-sign) (signedScalar l l-sign)) buffer
+
+-- 01's rows: the digits that the plan takes for k and l
 unfoldable pub iAnswer : Limits → List ℕ → ℕ → List ℕ → ℕ → ℕ → ℕ → ℕ → Sheet
 iAnswer limits k k-sign l l-sign m1 m2 room =
     columnsAnswer limits k k-sign l l-sign m1 m2 (digits (I m1 m2) (signedScalar k k-sign) (signedScalar l l-sign)) room
@@ -121,3 +133,10 @@ iAnswer limits k k-sign l l-sign m1 m2 room =
 unfoldable pub iBuffer : Limits → List ℕ → ℕ → List ℕ → ℕ → ℕ → ℕ → List ℕ → List ℕ
 iBuffer limits k k-sign l l-sign m1 m2 buffer =
     columnsBuffer limits k k-sign l l-sign m1 m2 (digits (I m1 m2) (signedScalar k k-sign) (signedScalar l l-sign)) buffer
+
+-- the rows from the top down
+unfoldable pub iDownAnswer : Limits → List ℕ → ℕ → List ℕ → ℕ → ℕ → ℕ → ℕ → Sheet
+iDownAnswer limits k k-sign l l-sign m1 m2 room = rowsAnswer Down limits k k-sign l l-sign m1 m2 room
+
+unfoldable pub iDownBuffer : Limits → List ℕ → ℕ → List ℕ → ℕ → ℕ → ℕ → List ℕ → List ℕ
+iDownBuffer limits k k-sign l l-sign m1 m2 buffer = rowsBuffer Down limits k k-sign l l-sign m1 m2 buffer

@@ -10,8 +10,9 @@ use Rattle.sheet.specs.declared.Plan.the-variants.{J, I}
 use Rattle.written.specs.Enough.{Enough}
 use Rattle.writer.specs.declared.answer.Sheet.{Sheet}
 use Rattle.writer.specs.declared.answer.Sheet.the-variants.{Written}
-use Rattle.writer.specs.Call.{Promised, SheetPromised, jAnswer, jBuffer, iAnswer, iBuffer}
-use Rattle.writer.specs.Call.Kept.{j-promised, i-promised}
+use Rattle.writer.specs.Call.{additions, Promised, SheetPromised, jAnswer, jBuffer, iAnswer, iBuffer, iDownAnswer, iDownBuffer}
+use Rattle.writer.specs.Call.Kept as Kept
+use Rattle.writer.specs.Call.Kept.{j-promised, i-promised, i-down-promised}
 
 module _ (limits : Limits) (enough : Enough limits) (k : List ℕ) (k-sign : ℕ) (l : List ℕ) (l-sign : ℕ) (buffer : List ℕ) (n a : ℕ) (k-bytes : Bytes k) (l-bytes : Bytes l) where
   -- plan J
@@ -27,3 +28,15 @@ module _ (limits : Limits) (enough : Enough limits) (k : List ℕ) (k-sign : ℕ
   i-promise m1 m2 e =
       subst (λ (x : Sheet). SheetPromised limits (I m1 m2) (signedScalar k k-sign) (signedScalar l l-sign) x (iBuffer limits k k-sign l l-sign m1 m2 buffer)) e
       (i-promised limits enough k k-sign l l-sign buffer k-bytes l-bytes m1 m2)
+
+  -- plan I from rows that are worked out from the top down
+  pub i-down-promise : (m1 m2 : ℕ) → iDownAnswer limits k k-sign l l-sign m1 m2 (length buffer) ≡ Written n a
+      → Promised limits (I m1 m2) (signedScalar k k-sign) (signedScalar l l-sign) a (take n (iDownBuffer limits k k-sign l l-sign m1 m2 buffer))
+  i-down-promise m1 m2 e =
+      subst (λ (x : Sheet). SheetPromised limits (I m1 m2) (signedScalar k k-sign) (signedScalar l l-sign) x (iDownBuffer limits k k-sign l l-sign m1 m2 buffer)) e
+      (i-down-promised limits enough k k-sign l l-sign buffer k-bytes l-bytes m1 m2)
+
+-- it has as many additions as plan I from 01's rows, for the same windows, whatever was asked
+pub i-down-additions : (limits : Limits) (k : List ℕ) (k-sign : ℕ) (l : List ℕ) (l-sign m1 m2 room : ℕ)
+    → additions (iDownAnswer limits k k-sign l l-sign m1 m2 room) ≡ additions (iAnswer limits k k-sign l l-sign m1 m2 room)
+i-down-additions = Kept.i-down-additions

@@ -7,10 +7,12 @@ ghost use Rattle.digits.specs.Limits.{card, gateway};
 ghost use Rattle.digits.specs.Row.{isWindow};
 ghost use Rattle.digits.specs.Scalar.{signedScalar, sized};
 ghost use Rattle.sheet.specs.declared.Plan.the-variants.{J, I};
-ghost use Rattle.written.specs.Written.{written};
+ghost use Rattle.written.specs.Written.{sheetOf, written};
 ghost use Rattle.writer.specs.Body.Parts.{Served};
-ghost use Rattle.writer.specs.Call.{number, wrote, SheetPromised, jQuestion, jAnswer, jBuffer, iQuestion, iAnswer, iBuffer};
+ghost use Rattle.writer.specs.Call.{number, wroteColumns, wrote, SheetPromised, jQuestion, jAnswer, jBuffer, iQuestion, rowsAnswer, rowsBuffer, iAnswer, iBuffer, iDownAnswer, iDownBuffer};
+ghost use Rattle.writer.specs.Rows.{columnsBy};
 use crate::answer::Sheet;
+use crate::rows::Rows;
 use digits::Limits;
 use sheet::Plan;
 
@@ -71,6 +73,7 @@ pub fn plan_i(
     let mut q = [0u8; CARD_PLACES];
     plan_i_within(
         Limits::card(),
+        Rows::Up,
         k,
         k_sign,
         l,
@@ -102,6 +105,71 @@ pub fn gateway_plan_i(
     let mut q = [0u8; GATEWAY_PLACES];
     plan_i_within(
         Limits::gateway(),
+        Rows::Up,
+        k,
+        k_sign,
+        l,
+        l_sign,
+        m1,
+        m2,
+        sheet,
+        &mut p,
+        &mut q,
+    )
+}
+
+// The same from rows that are worked out from the top down.
+pub fn plan_i_down(
+    k: &[u8],
+    k_sign: u32,
+    l: &[u8],
+    l_sign: u32,
+    m1: u32,
+    m2: u32,
+    sheet: &mut [u8],
+) -> Sheet
+    ensures answer { λ r. ⌜ r ≡ iDownAnswer card (now (k .entry)) «k_sign» (now (l .entry)) «l_sign» m1 m2 (length (now (sheet .entry))) ⌝ }
+    ensures buffer { λ _. ⌜ now (sheet .exit) ≡ iDownBuffer card (now (k .entry)) «k_sign» (now (l .entry)) «l_sign» m1 m2 (now (sheet .entry)) ⌝ }
+    ensures promised { λ r. ⌜ SheetPromised card (I m1 m2) (signedScalar (now (k .entry)) «k_sign») (signedScalar (now (l .entry)) «l_sign») r (now (sheet .exit)) ⌝ }
+    ensures question { λ r. ⌜ number r ≡ iQuestion card (now (k .entry)) (now (l .entry)) m1 m2 (length (now (sheet .entry))) ⌝ }
+{
+    let mut p = [0u8; CARD_PLACES];
+    let mut q = [0u8; CARD_PLACES];
+    plan_i_within(
+        Limits::card(),
+        Rows::Down,
+        k,
+        k_sign,
+        l,
+        l_sign,
+        m1,
+        m2,
+        sheet,
+        &mut p,
+        &mut q,
+    )
+}
+
+// The same at the gateway.
+pub fn gateway_plan_i_down(
+    k: &[u8],
+    k_sign: u32,
+    l: &[u8],
+    l_sign: u32,
+    m1: u32,
+    m2: u32,
+    sheet: &mut [u8],
+) -> Sheet
+    ensures answer { λ r. ⌜ r ≡ iDownAnswer gateway (now (k .entry)) «k_sign» (now (l .entry)) «l_sign» m1 m2 (length (now (sheet .entry))) ⌝ }
+    ensures buffer { λ _. ⌜ now (sheet .exit) ≡ iDownBuffer gateway (now (k .entry)) «k_sign» (now (l .entry)) «l_sign» m1 m2 (now (sheet .entry)) ⌝ }
+    ensures promised { λ r. ⌜ SheetPromised gateway (I m1 m2) (signedScalar (now (k .entry)) «k_sign») (signedScalar (now (l .entry)) «l_sign») r (now (sheet .exit)) ⌝ }
+    ensures question { λ r. ⌜ number r ≡ iQuestion gateway (now (k .entry)) (now (l .entry)) m1 m2 (length (now (sheet .entry))) ⌝ }
+{
+    let mut p = [0u8; GATEWAY_PLACES];
+    let mut q = [0u8; GATEWAY_PLACES];
+    plan_i_within(
+        Limits::gateway(),
+        Rows::Down,
         k,
         k_sign,
         l,
@@ -140,9 +208,10 @@ fn plan_j_within(
     Sheet::BadScalar
 }
 
-// The sheet of plan I, by the limits, which p and q have places for.
+// The sheet of plan I from rows of a kind, by the limits, which p and q have places for.
 fn plan_i_within(
     limits: Limits,
+    rows: Rows,
     k: &[u8],
     k_sign: u32,
     l: &[u8],
@@ -154,8 +223,8 @@ fn plan_i_within(
     q: &mut [u8],
 ) -> Sheet
     requires { ⌜ Served limits (length (now p)) (length (now q)) ⌝ }
-    ensures answer { λ r. ⌜ r ≡ iAnswer limits (now (k .entry)) «k_sign» (now (l .entry)) «l_sign» m1 m2 (length (now (sheet .entry))) ⌝ }
-    ensures buffer { λ _. ⌜ now (sheet .exit) ≡ iBuffer limits (now (k .entry)) «k_sign» (now (l .entry)) «l_sign» m1 m2 (now (sheet .entry)) ⌝ }
+    ensures answer { λ r. ⌜ r ≡ rowsAnswer rows limits (now (k .entry)) «k_sign» (now (l .entry)) «l_sign» m1 m2 (length (now (sheet .entry))) ⌝ }
+    ensures buffer { λ _. ⌜ now (sheet .exit) ≡ rowsBuffer rows limits (now (k .entry)) «k_sign» (now (l .entry)) «l_sign» m1 m2 (now (sheet .entry)) ⌝ }
     ensures promised { λ r. ⌜ SheetPromised limits (I m1 m2) (signedScalar (now (k .entry)) «k_sign») (signedScalar (now (l .entry)) «l_sign») r (now (sheet .exit)) ⌝ }
     ensures question { λ r. ⌜ number r ≡ iQuestion limits (now (k .entry)) (now (l .entry)) m1 m2 (length (now (sheet .entry))) ⌝ }
 {
@@ -164,7 +233,7 @@ fn plan_i_within(
             if sheet.len() < limits.sheet {
                 return Sheet::NoRoom;
             }
-            return write_i(k, k_sign, l, l_sign, m1, m2, sheet, p, q);
+            return write_i(rows, k, k_sign, l, l_sign, m1, m2, sheet, p, q);
         }
         return Sheet::BadWindow;
     }
@@ -200,8 +269,9 @@ fn write_j(
     crate::write::write_sheet(sheet, Plan::J, k, k_sign, l, l_sign, p, q, places, weight)
 }
 
-// Writes the sheet of plan I.
+// Writes the sheet of plan I from rows of a kind.
 fn write_i(
+    rows: Rows,
     k: &[u8],
     k_sign: u32,
     l: &[u8],
@@ -215,12 +285,12 @@ fn write_i(
     requires { ⌜ (sized gateway (now k) && sized gateway (now l)) ≡ true ⌝ }
     requires { ⌜ (isWindow m1 && isWindow m2) ≡ true ⌝ }
     requires { ⌜ (8 * max (length (now k)) (length (now l)) + 1 ≤ length (now p)) × (8 * max (length (now k)) (length (now l)) + 1 ≤ length (now q)) ⌝ }
-    requires { ⌜ length (written (I m1 m2) (signedScalar (now k) «k_sign») (signedScalar (now l) «l_sign»)) ≤ length (now sheet) ⌝ }
-    ensures { λ r. ⌜ r ≡ wrote (I m1 m2) (signedScalar (now (k .entry)) «k_sign») (signedScalar (now (l .entry)) «l_sign») ⌝ }
-    ensures { λ _. ⌜ now (sheet .exit) ≡ written (I m1 m2) (signedScalar (now (k .entry)) «k_sign») (signedScalar (now (l .entry)) «l_sign») ++ drop (length (written (I m1 m2) (signedScalar (now (k .entry)) «k_sign») (signedScalar (now (l .entry)) «l_sign»))) (now (sheet .entry)) ⌝ }
+    requires { ⌜ length (sheetOf (I m1 m2) (columnsBy rows m1 m2 (signedScalar (now k) «k_sign») (signedScalar (now l) «l_sign»)) (signedScalar (now k) «k_sign») (signedScalar (now l) «l_sign»)) ≤ length (now sheet) ⌝ }
+    ensures { λ r. ⌜ r ≡ wroteColumns (I m1 m2) (columnsBy rows m1 m2 (signedScalar (now (k .entry)) «k_sign») (signedScalar (now (l .entry)) «l_sign»)) (signedScalar (now (k .entry)) «k_sign») (signedScalar (now (l .entry)) «l_sign») ⌝ }
+    ensures { λ _. ⌜ now (sheet .exit) ≡ sheetOf (I m1 m2) (columnsBy rows m1 m2 (signedScalar (now (k .entry)) «k_sign») (signedScalar (now (l .entry)) «l_sign»)) (signedScalar (now (k .entry)) «k_sign») (signedScalar (now (l .entry)) «l_sign») ++ drop (length (sheetOf (I m1 m2) (columnsBy rows m1 m2 (signedScalar (now (k .entry)) «k_sign») (signedScalar (now (l .entry)) «l_sign»)) (signedScalar (now (k .entry)) «k_sign») (signedScalar (now (l .entry)) «l_sign»))) (now (sheet .entry)) ⌝ }
 {
-    let first = recode::gateway_row(k, k_sign, m1, p);
-    let second = recode::gateway_row(l, l_sign, m2, q);
+    let first = rows.write(k, k_sign, m1, p);
+    let second = rows.write(l, l_sign, m2, q);
     let places = larger(first.places(), second.places());
     let weight = first.weight() + second.weight();
     crate::write::write_sheet(

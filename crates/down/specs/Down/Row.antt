@@ -157,6 +157,10 @@ module _ (m : ℕ) where
   down-weight (pos n) h = natural-weight m n h
   down-weight (negsuc n) h = weight-signed 1 (natural m (suc n)) ∙ natural-weight m (suc n) h ∙ sym (row-size m (negsuc n) h .1)
 
+  -- so no row over the same digits has fewer
+  pub down-fewest : (c : ℤ) (ds : List ℤ) → 1 ≤ m → Over m ds → value ds ≡ c → weight (Down.down m c) ≤ weight ds
+  down-fewest c ds h o e = omega (arith, down-weight c h, row-fewest m c ds h o e)
+
   -- zero has the empty row
   pub down-zero : 1 ≤ m → Down.down m (pos 0) ≡ []
   unfolding weight

@@ -13,20 +13,29 @@ use Rattle.digits.specs.Row.{isWindow}
 use Rattle.digits.specs.Scalar.{Bytes, signedScalar, sized}
 use Rattle.digits.specs.Scalar.Signed.{signed-bounded}
 use Rattle.digits.specs.Scalar.Sized.{both}
+use Rattle.digits.specs.Two.{Column}
 use Rattle.recode.specs.Call.{rowAnswer, jointAnswer}
 use Rattle.recode.specs.Call.Short.{Short, row-short, joint-short}
 use Rattle.recode.specs.declared.answer.Recoded.{Recoded}
 use Rattle.codes.specs.Call.{codesAnswer}
+use Rattle.down.specs.Call.{downAnswer}
+use Rattle.down.specs.Call.Row.{down-short}
 use Rattle.codes.specs.Call.Short.{codes-short}
 use Rattle.sheet.specs.Plan.{isLimit}
 use Rattle.sheet.specs.declared.Plan.{Plan}
 use Rattle.sheet.specs.declared.Plan.the-variants.{J, I}
 use Rattle.written.specs.Enough.{Enough, card-enough, gateway-enough}
-use Rattle.written.specs.Promise.{written-fits, written-few}
+use Rattle.written.specs.Makes.{Makes}
+use Rattle.written.specs.Promise.{sheet-fits, sheet-few}
 use Rattle.written.specs.Valid.{Valid, forJ}
+use Rattle.written.specs.Written.{digits}
+use Rattle.written.specs.Written.Columns.{digits-make}
 use Rattle.writer.specs.Call as Writing
-use Rattle.writer.specs.Call.{wrote, jAnswer, iAnswer}
+use Rattle.writer.specs.Call.{wroteColumns, jAnswer, columnsAnswer, iAnswer, iDownAnswer}
 use Rattle.writer.specs.Call.Met.{windows-valid}
+use Rattle.writer.specs.Rows.{columnsBy}
+use Rattle.writer.specs.Rows.Made.{columns-make}
+use Rattle.writer.specs.declared.rows.Rows.the-variants.{Down}
 use Rattle.writer.specs.declared.answer.Sheet.{Sheet}
 use Rattle.writer.specs.declared.answer.Sheet.the-variants.{BadScalar, BadWindow, NoRoom, BadLimit}
 use Rattle.chooser.specs.Call.{cheapestAnswer}
@@ -56,6 +65,9 @@ module _ (limits : Limits) (tellable : Tellable limits) where
   pub row-fits : (s : List ℕ) (sign m places : ℕ) → Bytes s → RecodedFits (rowAnswer limits s sign m places)
   row-fits s sign m places h = short-fits (row-short limits s sign m places h)
 
+  pub down-fits : (s : List ℕ) (sign m places : ℕ) → Bytes s → RecodedFits (downAnswer limits s sign m places)
+  down-fits s sign m places h = short-fits (down-short limits s sign m places h)
+
   pub joint-fits : (k : List ℕ) (k-sign : ℕ) (l : List ℕ) (l-sign : ℕ) (places places′ : ℕ) → Bytes k → Bytes l → RecodedFits (jointAnswer limits k k-sign l l-sign places places′)
   joint-fits k k-sign l l-sign places places′ h g = short-fits (joint-short limits k k-sign l l-sign places places′ h g)
 
@@ -66,8 +78,8 @@ module _ (limits : Limits) (tellable : Tellable limits) where
   -- ── sheets ────────────────────────────────────────────────────────────────────────────────
 
   -- the answer where only the room is left to ask for
-  abbrev asked : ℤ → ℤ → Plan → ℕ → Sheet
-  asked k l p room = cond (Writing.roomy limits room) (wrote p k l) NoRoom
+  abbrev asked : ℤ → ℤ → Plan → List Column → ℕ → Sheet
+  asked k l p cs room = cond (Writing.roomy limits room) (wroteColumns p cs k l) NoRoom
 
   module _ (k : List ℕ) (k-sign : ℕ) (l : List ℕ) (l-sign : ℕ) (k-bytes : Bytes k) (l-bytes : Bytes l) where
     -- the two signed scalars
@@ -77,36 +89,44 @@ module _ (limits : Limits) (tellable : Tellable limits) where
     abbrev y : ℤ
     y = signedScalar l l-sign
 
-    asked-fits : {p : Plan} (room : ℕ) → Valid p → (sized limits k && sized limits l) ≡ true → SheetFits (asked x y p room)
-    asked-fits {p} room v e =
+    asked-fits : {p : Plan} (cs : List Column) (room : ℕ) → Valid p → Makes p x y cs → (sized limits k && sized limits l) ≡ true → SheetFits (asked x y p cs room)
+    asked-fits {p} cs room v makes e =
         let (a, b) = both (sized limits k) (sized limits l) e in
         let hk = signed-bounded limits k k-sign k-bytes a in
         let hl = signed-bounded limits l l-sign l-bytes b in
         let all = tellable .enough in
-        either-way SheetFits (Writing.roomy limits room) (wrote p x y) NoRoom
-        (λ _. record { length-fits = omega (arith, tellable .sheet, written-fits limits all p x y v hk hl); count-fits = omega (arith, all .counts, written-few limits all p x y v hk hl) })
+        either-way SheetFits (Writing.roomy limits room) (wroteColumns p cs x y) NoRoom
+        (λ _. record { length-fits = omega (arith, tellable .sheet, sheet-fits limits all p cs x y v makes hk hl); count-fits = omega (arith, all .counts, sheet-few limits all p cs x y v makes hk hl) })
         (omega arith)
 
     -- plan J
     pub j-fits : (room : ℕ) → SheetFits (jAnswer limits k k-sign l l-sign room)
     unfolding jAnswer
     j-fits room =
-        either-way SheetFits (sized limits k && sized limits l) (asked x y J room) BadScalar (λ e. asked-fits room forJ e) (omega arith)
+        either-way SheetFits (sized limits k && sized limits l) (asked x y J (digits J x y) room) BadScalar (λ e. asked-fits (digits J x y) room forJ (digits-make x y forJ) e) (omega arith)
 
-    -- plan I
+    -- plan I, from columns that make the scalars where the windows are good ones
+    columns-fits : (m1 m2 : ℕ) (cs : List Column) (room : ℕ) → ((isWindow m1 && isWindow m2) ≡ true → Makes (I m1 m2) x y cs) → SheetFits (columnsAnswer limits k k-sign l l-sign m1 m2 cs room)
+    columns-fits m1 m2 cs room makes =
+        let windows : Bool = isWindow m1 && isWindow m2 in
+        let answer : Sheet = asked x y (I m1 m2) cs room in
+        either-way SheetFits (sized limits k && sized limits l) (cond windows answer BadWindow) BadScalar
+        (λ e. either-way SheetFits windows answer BadWindow (λ w. asked-fits cs room (windows-valid m1 m2 w) (makes w) e) (omega arith)) (omega arith)
+
     pub i-fits : (m1 m2 room : ℕ) → SheetFits (iAnswer limits k k-sign l l-sign m1 m2 room)
     unfolding iAnswer
-    i-fits m1 m2 room =
-        let windows : Bool = isWindow m1 && isWindow m2 in
-        let answer : Sheet = asked x y (I m1 m2) room in
-        either-way SheetFits (sized limits k && sized limits l) (cond windows answer BadWindow) BadScalar
-        (λ e. either-way SheetFits windows answer BadWindow (λ w. asked-fits room (windows-valid m1 m2 w) e) (omega arith)) (omega arith)
+    i-fits m1 m2 room = columns-fits m1 m2 (digits (I m1 m2) x y) room (λ w. digits-make x y (windows-valid m1 m2 w))
+
+    pub i-down-fits : (m1 m2 room : ℕ) → SheetFits (iDownAnswer limits k k-sign l l-sign m1 m2 room)
+    unfolding iDownAnswer
+    i-down-fits m1 m2 room = columns-fits m1 m2 (columnsBy Down m1 m2 x y) room (λ w. columns-make m1 m2 x y w Down)
 
     -- the cheapest
     pub cheapest-fits : (limit room : ℕ) → SheetFits (cheapestAnswer limits k k-sign l l-sign limit room)
     unfolding cheapestAnswer
     cheapest-fits limit room =
-        let answer : Sheet = asked x y (cheapestPlan x y limit) room in
+        let plan : Plan = cheapestPlan x y limit in
+        let answer : Sheet = asked x y plan (digits plan x y) room in
         either-way SheetFits (sized limits k && sized limits l) (cond (isLimit limit) answer BadLimit) BadScalar
         (λ e. either-way SheetFits (isLimit limit) answer BadLimit
-        (λ _. asked-fits room (plan-within x y limit .0) e) (omega arith)) (omega arith)
+        (λ _. asked-fits (digits plan x y) room (plan-within x y limit .0) (digits-make x y (plan-within x y limit .0)) e) (omega arith)) (omega arith)

@@ -4,24 +4,24 @@ use mathlib.Core.Bool.{Bool, true, _&&_, cond}
 use mathlib.Core.List.{List}
 use Prim.Native.Nat.{ℕ, _+_, _*_, _≤_, max}
 use native.Mathlib.Omega.{arith}
+use lib.IntN.{ℤ}
 use lib.ListN.{length}
 use Rattle.digits.specs.Column.Weight as Columns
 use Rattle.digits.specs.declared.limits.Limits.{Limits}
 use Rattle.digits.specs.Missed.{either-way}
-use Rattle.digits.specs.Row.{isWindow}
+use Rattle.digits.specs.Row.{isWindow, weight}
 use Rattle.digits.specs.Row.Weight as Rows
-use Rattle.digits.specs.Row.Window.{window-parts}
 use Rattle.digits.specs.Scalar.{Bytes, signedScalar, sized, bitLength}
 use Rattle.digits.specs.Scalar.Signed.{scalar-size}
 use Rattle.digits.specs.Scalar.Sized.{both, some-bytes}
 use Rattle.digits.specs.Scalar.Value.{length-bytes}
 use Rattle.digits.specs.Two.{two}
 use Rattle.forms.specs.Joint.{joint}
-use Rattle.forms.specs.Promise.{row-length, joint-length}
-use Rattle.forms.specs.Row.{row}
+use Rattle.forms.specs.Promise.{joint-length}
 use Rattle.recode.specs.declared.answer.Recoded.{Recoded}
 use Rattle.recode.specs.declared.answer.Recoded.the-variants.{BadScalar, BadWindow, NoRoom}
-use Rattle.recode.specs.Call.{placesWritten, weightWritten, wroteRow, wroteColumns, roomy, rowAnswer, jointAnswer}
+use Rattle.recode.specs.Call.{placesWritten, weightWritten, wroteRow, wroteColumns, roomy, answerWith, rowAnswer, RowBy, jointAnswer}
+use Rattle.recode.specs.Call.Standing.{row-kept}
 
 -- an answer with at most n places, of which no more count than there are
 pub record Short (n : ℕ) (r : Recoded) : Type 0 where
@@ -32,22 +32,25 @@ module _ (limits : Limits) where
   abbrev most : ℕ
   most = 8 * limits .bytes + 1
 
-  row-places : (s : List ℕ) (sign m : ℕ) → Bytes s → sized limits s ≡ true → isWindow m ≡ true → length (row m (signedScalar s sign)) ≤ most
-  row-places s sign m bytes e w =
-      let (odd, within) = window-parts m w in
-      omega (arith, row-length m (signedScalar s sign) (omega arith), ap bitLength (scalar-size s sign), length-bytes s bytes, some-bytes limits s e .1)
-
-  -- a row
-  pub row-short : (s : List ℕ) (sign m places : ℕ) → Bytes s → Short most (rowAnswer limits s sign m places)
-  unfolding rowAnswer
-  row-short s sign m places bytes =
-      let written : Recoded = wroteRow (row m (signedScalar s sign)) in
+  -- a row that keeps what is promised
+  pub answer-short : {R : List ℤ → Type 0} {m : ℕ} {ds : List ℤ} (s : List ℕ) (sign places : ℕ) → (isWindow m ≡ true → RowBy R m (signedScalar s sign) (weight ds) ds)
+      → Bytes s → Short most (answerWith limits s m ds places)
+  unfolding answerWith
+  answer-short {R} {m} {ds} s sign places kept bytes =
+      let written : Recoded = wroteRow ds in
       let room : Bool = roomy (length s) places in
       let asked : Recoded = cond room written NoRoom in
       either-way (Short most) (sized limits s) (cond (isWindow m) asked BadWindow) BadScalar
       (λ e. either-way (Short most) (isWindow m) asked BadWindow
       (λ w. either-way (Short most) room written NoRoom
-      (λ _. record { length-most = row-places s sign m bytes e w; weight-most = Rows.weight-most (row m (signedScalar s sign)) }) (omega arith)) (omega arith)) (omega arith)
+      (λ _. record { length-most = few e (kept w); weight-most = Rows.weight-most ds }) (omega arith)) (omega arith)) (omega arith)
+    where
+      few : sized limits s ≡ true → RowBy R m (signedScalar s sign) (weight ds) ds → length ds ≤ most
+      few e k = omega (arith, k .short, ap bitLength (scalar-size s sign), length-bytes s bytes, some-bytes limits s e .1)
+
+  -- 01's
+  pub row-short : (s : List ℕ) (sign m places : ℕ) → Bytes s → Short most (rowAnswer limits s sign m places)
+  row-short s sign m places = answer-short s sign places (row-kept m (signedScalar s sign))
 
   joint-places : (s : List ℕ) (s-sign : ℕ) (t : List ℕ) (t-sign : ℕ) → Bytes s → Bytes t → (sized limits s && sized limits t) ≡ true → length (joint (signedScalar s s-sign) (signedScalar t t-sign)) ≤ most
   joint-places s s-sign t t-sign s-bytes t-bytes e =

@@ -1,5 +1,5 @@
--- What stands in the buffers after a row or joint call, whatever was asked: 01's row, or the joint columns. From the promises of forms,
--- and from what was written being read back.
+-- What stands in the buffers after a row or joint call, whatever was asked: a row that keeps what is promised, as 01's does, or the joint
+-- columns. From the promises of forms, and from what was written being read back.
 use mathlib.Core.Path.{_≡_, refl, sym, ap, ap₂, subst, _∙_}
 use mathlib.Core.Bool.{Bool, true, false, _&&_, cond}
 use mathlib.Core.List.{List}
@@ -31,10 +31,11 @@ use Rattle.recode.specs.Call.{
   filled,
   left,
   rowQuestion,
-  rowAnswer,
-  rowBuffer,
+  answerWith,
+  bufferWith,
+  RowBy,
+  PromisedBy,
   RowOf,
-  RowPromised,
   jointQuestion,
   jointAnswer,
   jointBuffer,
@@ -42,9 +43,13 @@ use Rattle.recode.specs.Call.{
   JointPromised,
 }
 
--- what is promised, of 01's row and of the joint form
-row-is : (m : ℕ) (c : ℤ) → 1 ≤ m → RowOf m c (weight (row m c)) (row m c)
-row-is m c h =
+-- ── a row ───────────────────────────────────────────────────────────────────────────────────
+
+-- 01's row keeps what is promised
+pub row-kept : (m : ℕ) (c : ℤ) → isWindow m ≡ true → RowOf m c (weight (row m c)) (row m c)
+row-kept m c e =
+    let (odd, within) = window-parts m e in
+    let h : 1 ≤ m = omega arith in
     record {
       rule = row-meets m c h;
       digits = row-digits m c h;
@@ -55,11 +60,40 @@ row-is m c h =
       fewest = λ es. row-fewest m c es h;
     }
 
-row-stands : (m : ℕ) (c : ℤ) (buffer : List ℕ) → isWindow m ≡ true → RowOf m c (weight (row m c)) (rowBelow (length (row m c)) (filled (row m c) buffer))
-row-stands m c buffer e =
-    let (odd, within) = window-parts m e in
-    let some : 1 ≤ m = omega arith in
-    subst (RowOf m c (weight (row m c))) (sym (row-read _ (omega arith) (row-digits m c some))) (row-is m c some)
+-- the number of the answer is that of the first question missed
+pub row-question : (limits : Limits) (s : List ℕ) (m : ℕ) (ds : List ℤ) (places : ℕ) → number (answerWith limits s m ds places) ≡ rowQuestion limits s m places
+unfolding answerWith
+row-question limits s m ds places = go (sized limits s) (isWindow m) (roomy (length s) places)
+  where
+    go : (a b c : Bool) → number (cond a (cond b (cond c (wroteRow ds) NoRoom) BadWindow) BadScalar) ≡ cond a (cond b (cond c 0 3) 2) 1
+    go true true true = refl
+    go true true false = refl
+    go true false c = refl
+    go false b c = refl
+
+-- a row that keeps what is promised
+module _ {R : List ℤ → Type 0} {m : ℕ} {c : ℤ} {ds : List ℤ} (kept : isWindow m ≡ true → RowBy R m c (weight ds) ds) where
+  row-stands : (buffer : List ℕ) → isWindow m ≡ true → RowBy R m c (weight ds) (rowBelow (length ds) (filled ds buffer))
+  row-stands buffer e =
+      let (odd, within) = window-parts m e in
+      subst (RowBy R m c (weight ds)) (sym (row-read _ (omega arith) (kept e .digits))) (kept e)
+
+  -- the answer and the buffer keep the promise
+  pub row-promised : (limits : Limits) (s buffer : List ℕ) → PromisedBy R m c (answerWith limits s m ds (length buffer)) (bufferWith limits s m ds buffer)
+  unfolding answerWith bufferWith
+  row-promised limits s buffer = go (sized limits s) (isWindow m) (roomy (length s) (length buffer)) (row-stands buffer)
+    where
+      answer : Bool → Bool → Bool → Recoded
+      answer a b c = cond a (cond b (cond c (wroteRow ds) NoRoom) BadWindow) BadScalar
+
+      go : (a b d : Bool) → (b ≡ true → RowBy R m c (weight ds) (rowBelow (length ds) (filled ds buffer)))
+          → PromisedBy R m c (answer a b d) (left (answer a b d) ds buffer)
+      go true true true h = h refl
+      go true true false h = tt
+      go true false d h = tt
+      go false b d h = tt
+
+-- ── a joint form ────────────────────────────────────────────────────────────────────────────
 
 joint-is : (k l : ℤ) → JointOf k l (Columns.weight two (joint k l)) (joint k l)
 joint-is k l =
@@ -73,36 +107,6 @@ joint-is k l =
       counted = refl;
       fewest = λ ds. joint-fewest k l ds;
     }
-
-module _ (limits : Limits) (s : List ℕ) (sign m : ℕ) where
-  -- the number of the answer is that of the first question missed
-  pub row-question : (places : ℕ) → number (rowAnswer limits s sign m places) ≡ rowQuestion limits s m places
-  unfolding rowAnswer
-  row-question places = go (sized limits s) (isWindow m) (roomy (length s) places)
-    where
-      go : (a b c : Bool) → number (cond a (cond b (cond c (wroteRow (row m (signedScalar s sign))) NoRoom) BadWindow) BadScalar) ≡ cond a (cond b (cond c 0 3) 2) 1
-      go true true true = refl
-      go true true false = refl
-      go true false c = refl
-      go false b c = refl
-
-  -- the answer and the buffer keep the promise
-  pub row-promised : (buffer : List ℕ) → RowPromised m (signedScalar s sign) (rowAnswer limits s sign m (length buffer)) (rowBuffer limits s sign m buffer)
-  unfolding rowAnswer rowBuffer
-  row-promised buffer = go (sized limits s) (isWindow m) (roomy (length s) (length buffer)) (row-stands m (signedScalar s sign) buffer)
-    where
-      ds : List ℤ
-      ds = row m (signedScalar s sign)
-
-      answer : Bool → Bool → Bool → Recoded
-      answer a b c = cond a (cond b (cond c (wroteRow ds) NoRoom) BadWindow) BadScalar
-
-      go : (a b c : Bool) → (b ≡ true → RowOf m (signedScalar s sign) (weight ds) (rowBelow (length ds) (filled ds buffer)))
-          → RowPromised m (signedScalar s sign) (answer a b c) (left (answer a b c) ds buffer)
-      go true true true h = h refl
-      go true true false h = tt
-      go true false c h = tt
-      go false b c h = tt
 
 module _ (limits : Limits) (s : List ℕ) (s-sign : ℕ) (t : List ℕ) (t-sign : ℕ) where
   pub joint-question : (places places′ : ℕ) → number (jointAnswer limits s s-sign t t-sign places places′) ≡ jointQuestion limits s t places places′

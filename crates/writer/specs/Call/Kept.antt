@@ -20,11 +20,14 @@ use Rattle.written.specs.Enough.{Enough}
 use Rattle.written.specs.Makes.{Makes}
 use Rattle.written.specs.Promise.{sheet-accepted, sheet-slots, sheet-counted}
 use Rattle.written.specs.Valid.{Valid, forJ}
-use Rattle.written.specs.Written.{digits, sheetOf}
+use Rattle.written.specs.Written.{digits, sheetOf, additionsOf}
 use Rattle.written.specs.Written.Columns.{digits-make}
 use Rattle.writer.specs.declared.answer.Sheet.{Sheet}
 use Rattle.writer.specs.declared.answer.Sheet.the-variants.{BadScalar, BadWindow, NoRoom}
-use Rattle.writer.specs.Call.{number, roomy, wroteColumns, wrote, left, Promised, SheetPromised, jQuestion, jAnswer, jBuffer, iQuestion, columnsAnswer, columnsBuffer, iAnswer, iBuffer}
+use Rattle.writer.specs.Call.{number, additions, roomy, wroteColumns, wrote, left, Promised, SheetPromised, jQuestion, jAnswer, jBuffer, iQuestion, columnsAnswer, columnsBuffer, iAnswer, iBuffer, iDownAnswer, iDownBuffer}
+use Rattle.writer.specs.Rows.{columnsBy}
+use Rattle.writer.specs.Rows.Made.{columns-make, columns-cost}
+use Rattle.writer.specs.declared.rows.Rows.the-variants.{Up, Down}
 use Rattle.writer.specs.Call.Met.{windows-valid}
 
 module _ (limits : Limits) (enough : Enough limits) where
@@ -96,6 +99,11 @@ module _ (limits : Limits) (enough : Enough limits) where
     unfolding iAnswer iBuffer
     i-promised m1 m2 = columns-promised m1 m2 (digits (I m1 m2) x y) (λ e. digits-make x y (windows-valid m1 m2 e))
 
+    -- from the rows from the top down
+    pub i-down-promised : (m1 m2 : ℕ) → SheetPromised limits (I m1 m2) x y (iDownAnswer limits k k-sign l l-sign m1 m2 (length buffer)) (iDownBuffer limits k k-sign l l-sign m1 m2 buffer)
+    unfolding iDownAnswer iDownBuffer
+    i-down-promised m1 m2 = columns-promised m1 m2 (columnsBy Down m1 m2 x y) (λ e. columns-make m1 m2 x y e Down)
+
 module _ (k : List ℕ) (k-sign : ℕ) (l : List ℕ) (l-sign : ℕ) where
   -- the numbers
   pub j-question : (limits : Limits) (room : ℕ) → number (jAnswer limits k k-sign l l-sign room) ≡ jQuestion limits k l room
@@ -124,3 +132,26 @@ module _ (k : List ℕ) (k-sign : ℕ) (l : List ℕ) (l-sign : ℕ) where
   pub i-question : (limits : Limits) (m1 m2 room : ℕ) → number (iAnswer limits k k-sign l l-sign m1 m2 room) ≡ iQuestion limits k l m1 m2 room
   unfolding iAnswer
   i-question limits m1 m2 room = columns-question limits m1 m2 (digits (I m1 m2) (signedScalar k k-sign) (signedScalar l l-sign)) room
+
+-- the rows from the top down cost what 01's do
+pub i-down-additions : (limits : Limits) (k : List ℕ) (k-sign : ℕ) (l : List ℕ) (l-sign m1 m2 room : ℕ)
+    → additions (iDownAnswer limits k k-sign l l-sign m1 m2 room) ≡ additions (iAnswer limits k k-sign l l-sign m1 m2 room)
+unfolding iDownAnswer iAnswer digits
+i-down-additions limits k k-sign l l-sign m1 m2 room =
+    go (sized limits k && sized limits l) (isWindow m1 && isWindow m2) (roomy limits room) (λ e. columns-cost m1 m2 x y e Down)
+  where
+    x : ℤ
+    x = signedScalar k k-sign
+
+    y : ℤ
+    y = signedScalar l l-sign
+
+    answer : List Column → Bool → Bool → Bool → Sheet
+    answer cs a b c = cond a (cond b (cond c (wroteColumns (I m1 m2) cs x y) NoRoom) BadWindow) BadScalar
+
+    go : (a b c : Bool) → (b ≡ true → additionsOf (I m1 m2) (columnsBy Down m1 m2 x y) x y ≡ additionsOf (I m1 m2) (columnsBy Up m1 m2 x y) x y)
+        → additions (answer (columnsBy Down m1 m2 x y) a b c) ≡ additions (answer (columnsBy Up m1 m2 x y) a b c)
+    go true true true h = h refl
+    go true true false h = refl
+    go true false c h = refl
+    go false b c h = refl

@@ -16,7 +16,8 @@ use Rattle.digits.specs.Two.{Column, P, Q, two}
 use Rattle.forms.specs.Joint.{joint}
 use Rattle.forms.specs.Joint.Length.{joint-length}
 use Rattle.recode.specs.Call.{wroteColumns, filled}
-use Rattle.recode.proofs.Prefix.{first-length, first-cleared, first-filled, first-places, first-bytes}
+use Rattle.recode.specs.Call.Lent.{first-length, first-cleared, first-filled, first-places}
+use Rattle.recode.proofs.Prefix.{first-bytes}
 use Rattle.recode.proofs.columns.write_joint.Statement.{statement}
 use Rattle.recode.proofs.columns.write_joint.Tie as tie
 

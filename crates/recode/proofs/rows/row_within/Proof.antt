@@ -9,9 +9,10 @@ use borrow.Author.Needs.{needs}
 use Rattle.digits.specs.Limits.{gateway}
 use Rattle.digits.specs.Row.{isWindow}
 use Rattle.digits.specs.Row.Window.{window-parts}
-use Rattle.digits.specs.Scalar.{sized}
+use Rattle.digits.specs.Scalar.{signedScalar, sized}
 use Rattle.digits.specs.Scalar.Sized.{some-bytes}
 use Rattle.recode.specs.Call.Row.{bad-scalar, bad-window, no-room, written}
+use Rattle.recode.specs.Call.Standing.{row-kept}
 use Rattle.recode.proofs.rows.row_within.Statement.{statement}
 use Rattle.recode.proofs.rows.row_within.Tie as tie
 
@@ -57,7 +58,7 @@ returns : tie.Need-returns
 returns c =
     let q = c .before in
     let a = asked (first q) .args in
-    no-room (a .limits) (a .scalar .now) (a .sign) (a .m) (a .digits .now) (size (first q)) (window q) (c .if3 .taken)
+    no-room (row-kept (a .m) (signedScalar (a .scalar .now) (a .sign))) (a .limits) (a .scalar .now) (a .digits .now) (size (first q)) (window q) (c .if3 .taken)
 
 cast-write-signed-row : tie.Need-cast-write-signed-row
 cast-write-signed-row c = omega (arith, bounds (c .before))
@@ -83,18 +84,18 @@ returns-2 c =
     let e = w .before .before .before in
     let q = e .before in
     let a = asked (first q) .args in
-    written (a .limits) (a .scalar .now) (a .sign) (a .m) (a .digits .now) (size (first q)) (window q) (w .write-signed-row .result) (w .write-signed-row .last .1 .1 .1 .0)
+    written (row-kept (a .m) (signedScalar (a .scalar .now) (a .sign))) (a .limits) (a .scalar .now) (a .digits .now) (size (first q)) (window q) (w .write-signed-row .result) (w .write-signed-row .last .1 .1 .1 .0)
     (omega (arith, e .if3 .left)) (w .write-signed-row .ensures .0) (w .write-signed-row .ensures .1)
 
 returns-3 : tie.Need-returns-3
 returns-3 c =
     let a = asked (c .before .before) .args in
-    bad-window (a .limits) (a .scalar .now) (a .sign) (a .m) (a .digits .now) (size (c .before .before)) (sym (c .before .is-window .ensures) ∙ c .if2 .left)
+    bad-window (row-kept (a .m) (signedScalar (a .scalar .now) (a .sign))) (a .limits) (a .scalar .now) (a .digits .now) (size (c .before .before)) (sym (c .before .is-window .ensures) ∙ c .if2 .left)
 
 returns-4 : tie.Need-returns-4
 returns-4 c =
     let a = c .before .before .before .before .before .args in
-    bad-scalar (a .limits) (a .scalar .now) (a .sign) (a .m) (a .digits .now) (sym (c .before .is-scalar .ensures) ∙ c .if1 .left)
+    bad-scalar (row-kept (a .m) (signedScalar (a .scalar .now) (a .sign))) (a .limits) (a .scalar .now) (a .digits .now) (sym (c .before .is-scalar .ensures) ∙ c .if1 .left)
 
 pub row-within-spec : {M : Type 1} → statement M
 row-within-spec =

@@ -13,7 +13,8 @@ use Rattle.digits.specs.Scalar.{little, scalar, bitLength}
 use Rattle.forms.specs.Row.{row}
 use Rattle.forms.specs.Row.Length.{row-length}
 use Rattle.recode.specs.Call.{wroteRow, filled}
-use Rattle.recode.proofs.Prefix.{first-length, first-cleared, first-filled, first-bytes}
+use Rattle.recode.specs.Call.Lent.{first-length, first-cleared, first-filled}
+use Rattle.recode.proofs.Prefix.{first-bytes}
 use Rattle.recode.proofs.rows.write_row.Statement.{statement}
 use Rattle.recode.proofs.rows.write_row.Tie as tie
 

@@ -28,12 +28,12 @@ same-length : tie.Need-same-length
 same-length c = search needs
 
 returns : tie.Need-returns
-unfolding iAnswer iBuffer
+unfolding iAnswer iBuffer digits
 returns c =
     let w = c .before .before .before .before in
     let l = w .before .before .before .before in
     let a = l .before .before .before .before .args in
-    subst (λ (limits : Limits). ReturnedI limits (a .k .now) (a .k-sign) (a .l .now) (a .l-sign) (a .sheet .now) (a .m1) (a .m2) (digits (I (a .m1) (a .m2)) (signedScalar (a .k .now) (a .k-sign)) (signedScalar (a .l .now) (a .l-sign))) (w .plan-i-within .result) (w .plan-i-within .last .1 .1 .1 .1 .1 .1 .1 .0)) (l .card .ensures)
+    subst (λ (limits : Limits). ReturnedI limits (a .k .now) (a .k-sign) (a .l .now) (a .l-sign) (a .sheet .now) (a .m1) (a .m2) (digits (I (a .m1) (a .m2)) (signedScalar (a .k .now) (a .k-sign)) (signedScalar (a .l .now) (a .l-sign))) (w .plan-i-within .result) (w .plan-i-within .last .1 .1 .1 .1 .1 .1 .1 .1 .0)) (l .card .ensures)
     (w .plan-i-within .ensures)
 
 pub plan-i-spec : {M : Type 1} → statement M

@@ -9,9 +9,8 @@ use Rattle.digits.specs.Scalar.{Bytes, signedScalar}
 use Rattle.digits.specs.Two.{Column}
 use Rattle.sheet.specs.declared.Plan.the-variants.{I}
 use Rattle.written.specs.Makes.{Makes}
-use Rattle.written.specs.Written.{digits}
-use Rattle.written.specs.Written.Columns.{digits-make}
-use Rattle.writer.specs.Call.{iAnswer, iBuffer}
+use Rattle.writer.specs.Rows.{columnsBy}
+use Rattle.writer.specs.Rows.Made.{columns-make}
 use Rattle.writer.specs.Call.Met.{windows-valid}
 use Rattle.writer.proofs.PlanAnswers.{wide, rooms, fits, i-scalar, i-window, i-room, i-written}
 use borrow.Author.Needs.{needs}
@@ -36,10 +35,10 @@ module _ (c : tie.After-are-scalars) where
   y = signedScalar (asked .args .l .now) (asked .args .l-sign)
 
   abbrev cs : List Column
-  cs = digits (I (asked .args .m1) (asked .args .m2)) x y
+  cs = columnsBy (asked .args .rows) (asked .args .m1) (asked .args .m2) x y
 
   makes : (isWindow (asked .args .m1) && isWindow (asked .args .m2)) ≡ true → Makes (I (asked .args .m1) (asked .args .m2)) x y cs
-  makes e = digits-make x y (windows-valid (asked .args .m1) (asked .args .m2) e)
+  makes e = columns-make (asked .args .m1) (asked .args .m2) x y e (asked .args .rows)
 
 are-scalars-requires : tie.Need-are-scalars-requires
 are-scalars-requires c κs = search needs
@@ -48,7 +47,6 @@ are-windows-requires : tie.Need-are-windows-requires
 are-windows-requires c κs = search needs
 
 returns : tie.Need-returns
-unfolding iAnswer iBuffer
 returns c =
     let s = c .before .before .before .before .before in
     let a = asked s .args in
@@ -73,7 +71,6 @@ same-length-3 : tie.Need-same-length-3
 same-length-3 c = search needs
 
 returns-2 : tie.Need-returns-2
-unfolding iAnswer iBuffer
 returns-2 c =
     let w = c .before .before .before .before .before .before in
     let s = w .before .before .before .before .before .before .before .before .before in
@@ -81,14 +78,12 @@ returns-2 c =
     i-written (a .limits) (asked s .pre .enough) (a .k .now) (a .k-sign) (a .l .now) (a .l-sign) (a .sheet .now) (k-bytes s) (l-bytes s) (a .m1) (a .m2) (cs s) (makes s) (sym (s .are-scalars .ensures) ∙ w .before .before .before .before .before .before .before .before .if1 .taken) (sym (w .before .before .before .before .before .before .before .are-windows .ensures) ∙ w .before .before .before .before .before .before .if2 .taken) (w .before .before .before .before .if3 .left) (w .write-i .ensures .0) (w .write-i .ensures .1)
 
 returns-3 : tie.Need-returns-3
-unfolding iAnswer iBuffer
 returns-3 c =
     let s = c .before .before .before in
     let a = asked s .args in
     i-window (a .limits) (asked s .pre .enough) (a .k .now) (a .k-sign) (a .l .now) (a .l-sign) (a .sheet .now) (k-bytes s) (l-bytes s) (a .m1) (a .m2) (cs s) (makes s) (sym (s .are-scalars .ensures) ∙ c .before .before .if1 .taken) (sym (c .before .are-windows .ensures) ∙ c .if2 .left)
 
 returns-4 : tie.Need-returns-4
-unfolding iAnswer iBuffer
 returns-4 c =
     let s = c .before in
     let a = asked s .args in

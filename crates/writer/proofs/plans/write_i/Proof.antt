@@ -8,23 +8,23 @@ use lib.ListN.{length}
 use Rattle.digits.specs.Scalar.{Bytes, signedScalar, sized}
 use Rattle.digits.specs.Limits.{gateway}
 use Rattle.recode.specs.Call.{weightWritten}
-use Rattle.recode.specs.Call.Short.{row-short}
+use Rattle.recode.specs.Call.Short.{answer-short}
 use Rattle.writer.specs.Call.Met.{windows-valid}
 use Rattle.sheet.specs.declared.Plan.the-variants.{I}
 use Rattle.written.specs.Makes.{Makes}
 use Rattle.written.specs.Valid.{Valid}
-use Rattle.written.specs.Written.{digits}
-use Rattle.written.specs.Written.Columns.{digits-make}
+use Rattle.writer.specs.Rows.{columnsBy}
+use Rattle.writer.specs.Rows.Made.{rows-kept, columns-make}
 use Rattle.writer.proofs.DigitRows.{in-bounds, few-places, Standing, ready, standing-written, row-calls}
 use borrow.Author.Needs.{needs}
 use Rattle.writer.proofs.plans.write_i.Statement.{statement}
 use Rattle.writer.proofs.plans.write_i.Tie as tie
 
-gateway-row-requires : tie.Need-gateway-row-requires
-gateway-row-requires c κs = search needs
+write-requires : tie.Need-write-requires
+write-requires c κs = search needs
 
-gateway-row-requires-2 : tie.Need-gateway-row-requires-2
-gateway-row-requires-2 c κs = search needs
+write-requires-2 : tie.Need-write-requires-2
+write-requires-2 c κs = search needs
 
 places-requires : tie.Need-places-requires
 places-requires c κs = search needs
@@ -52,10 +52,10 @@ module _ (c : tie.After-weight2) where
   l-bytes : Bytes (asked .args .l .now)
   l-bytes i = c .before .before .before .before .before .before .before .before .before .before .before .before .before .before .before .before .shared-slice-known2 .given i .fits
 
-  abbrev first : tie.After-gateway-row
+  abbrev first : tie.After-write
   first = c .before .before .before .before .before .before .before .before .before .before .before
 
-  abbrev second : tie.After-gateway-row2
+  abbrev second : tie.After-write2
   second = c .before .before .before .before .before .before .before
 
   abbrev x : ℤ
@@ -67,26 +67,26 @@ module _ (c : tie.After-weight2) where
   valid : Valid (I (asked .args .m1) (asked .args .m2))
   valid = windows-valid (asked .args .m1) (asked .args .m2) (asked .pre .1 .0)
 
-  makes : Makes (I (asked .args .m1) (asked .args .m2)) x y (digits (I (asked .args .m1) (asked .args .m2)) x y)
-  makes = digits-make x y valid
+  makes : Makes (I (asked .args .m1) (asked .args .m2)) x y (columnsBy (asked .args .rows) (asked .args .m1) (asked .args .m2) x y)
+  makes = columns-make (asked .args .m1) (asked .args .m2) x y (asked .pre .1 .0) (asked .args .rows)
 
-  standing : Standing (I (asked .args .m1) (asked .args .m2)) (first .gateway-row .last .1 .1 .1 .0) (second .gateway-row2 .last .1 .1 .1 .0) (digits (I (asked .args .m1) (asked .args .m2)) x y) (c .before .before .larger .result) (c .before .weight .result + c .weight2 .result)
+  standing : Standing (I (asked .args .m1) (asked .args .m2)) (first .write .last .1 .1 .1 .1 .0) (second .write2 .last .1 .1 .1 .1 .0) (columnsBy (asked .args .rows) (asked .args .m1) (asked .args .m2) x y) (c .before .before .larger .result) (c .before .weight .result + c .weight2 .result)
   standing =
       let a = asked .args in
-      let r = first .gateway-row .ensures in
-      let t = second .gateway-row2 .ensures in
-      row-calls (a .k .now) (a .k-sign) (a .l .now) (a .l-sign) (a .p .now) (a .q .now) (a .m1) (a .m2) (asked .pre .0) (asked .pre .1 .0) (asked .pre .1 .1 .0)
+      let r = first .write .ensures in
+      let t = second .write2 .ensures in
+      row-calls (a .rows) (a .k .now) (a .k-sign) (a .l .now) (a .l-sign) (a .p .now) (a .q .now) (a .m1) (a .m2) (asked .pre .0) (asked .pre .1 .0) (asked .pre .1 .1 .0)
       (few-places (a .k .now) (a .k-sign) (a .l .now) (a .l-sign) k-bytes l-bytes makes)
-      (r .0) (t .0) (r .1 .0) (t .1 .0)
+      (r .0) (t .0) (r .1) (t .1)
       (c .before .before .larger .ensures ∙ ap₂ max (c .before .before .before .before .places .ensures) (c .before .before .before .places2 .ensures))
       (ap₂ (λ (u v : ℕ). u + v) (c .before .weight .ensures) (c .weight2 .ensures))
 
 add-weight : tie.Need-add-weight
 add-weight c =
     let a = asked c .args in
-    let p = row-short gateway (a .k .now) (a .k-sign) (a .m1) (length (a .p .now)) (k-bytes c) in
-    let q = row-short gateway (a .l .now) (a .l-sign) (a .m2) (length (a .q .now)) (l-bytes c) in
-    omega (arith, c .before .weight .ensures, c .weight2 .ensures, ap weightWritten (first c .gateway-row .ensures .0), ap weightWritten (second c .gateway-row2 .ensures .0), p .length-most, p .weight-most, q .length-most, q .weight-most)
+    let p = answer-short gateway (a .k .now) (a .k-sign) (length (a .p .now)) (rows-kept (a .rows) (a .m1) (x c)) (k-bytes c) in
+    let q = answer-short gateway (a .l .now) (a .l-sign) (length (a .q .now)) (rows-kept (a .rows) (a .m2) (y c)) (l-bytes c) in
+    omega (arith, c .before .weight .ensures, c .weight2 .ensures, ap weightWritten (first c .write .ensures .0), ap weightWritten (second c .write2 .ensures .0), p .length-most, p .weight-most, q .length-most, q .weight-most)
 
 write-sheet-requires : tie.Need-write-sheet-requires
 write-sheet-requires c κs =
@@ -114,8 +114,8 @@ pub write-i-spec : {M : Type 1} → statement M
 write-i-spec =
     tie.close
     (tie.spec
-    gateway-row-requires
-    gateway-row-requires-2
+    write-requires
+    write-requires-2
     places-requires
     places-requires-2
     larger-requires

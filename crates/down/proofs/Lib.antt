@@ -1,0 +1,8 @@
+-- Laws that the functions' proofs cite.
+pub mod FourBytes
+pub mod BitLength
+pub mod WindowSize
+pub mod AheadBits
+pub mod DigitPlaces
+pub mod Turns
+pub mod DownLoop

@@ -1,0 +1,75 @@
+-- What a window is worth in size, from the top bits of x: it is not 0, and is an odd number above its zeros; its width, by the test of
+-- line 9; and the sign and the byte of its digit.
+use mathlib.Core.Path.{_≡_, refl, sym, ap, _∙_}
+use mathlib.Core.Logic.{_≢_}
+use mathlib.Core.Bool.{Bool, true, false, cond}
+use Prim.Native.Nat.{ℕ, zero, suc, _+_, _*_, _-_, _/_, _%_, _^_, _≤_, _<_}
+use native.Mathlib.Nat.{mul-le-mul-left, mul-div-cancel-left, lt-of-not-le, le-div-iff-mul-le}
+use native.Mathlib.Omega.{arith}
+use lib.Count.{trailingZeros}
+use lib.IntN.{ℤ, pos, negℤ}
+use lib.Pow.{pow-pos, pow-mono, shr-le}
+use Rattle.digits.specs.Byte.{byteOf, turned}
+use Rattle.digits.specs.Byte.Signed.{byte-negated}
+use Rattle.digits.specs.Integer.{signedBy}
+use Rattle.digits.specs.Integer.Parts.{integers, negation}
+use Rattle.digits.specs.Scalar.{bitLength}
+use Rattle.digits.specs.Scalar.Length.{length-least}
+use Rattle.digits.specs.Scalar.Zeros.{odd-part}
+use Rattle.down.specs.Body.Window.{sizeOf, Signs}
+
+-- one place fewer, or none
+pub few : (b : Bool) → cond b 1 0 ≤ 1
+few true = omega arith
+few false = omega arith
+
+pub less-few : (b : Bool) (w : ℕ) → w - cond b 1 0 ≡ cond b (w - 1) w
+less-few true w = refl
+less-few false w = omega arith
+
+-- a number of b bits is at least 2^k for every k below b
+pub at-least : (x b k : ℕ) → b ≡ bitLength x → k < b → 2 ^ k ≤ x
+at-least x b k e h = let over : ¬ (x < 2 ^ k) = λ l. omega (arith, length-least x k l) in omega arith
+
+-- the size is not 0
+pub size-some : (x b w : ℕ) → b ≡ bitLength x → 1 ≤ w → w ≤ b → 1 ≤ sizeOf x b w
+size-some x b w e h l =
+    let one : 1 ≤ x / 2 ^ (b - w) = le-div-iff-mul-le (pow-pos (b - w)) .1 (omega (arith, at-least x b (b - w) e (omega arith))) in
+    omega arith
+
+pub size-few : (x b w : ℕ) → x < 2 ^ 24 → sizeOf x b w < 2 ^ 32
+size-few x b w h = omega (arith, shr-le x (b - w))
+
+-- fewer zeros than bits
+zeros-below : (k n z q : ℕ) → n < 2 ^ k → n ≡ 2 ^ z * q → q % 2 ≡ 1 → z < k
+zeros-below k n z q l e o =
+    lt-of-not-le {n = k} {m = z} (λ (g : k ≤ z). omega (arith, pow-mono {i = k} {j = z} g, mul-le-mul-left {m = 1} {n = q} (2 ^ z) (omega arith)))
+
+-- a number that is not 0, by its trailing zeros
+pub trailing : (n : ℕ) → 1 ≤ n → n < 2 ^ 32 → let z = trailingZeros 32 n in (z < 32) × ((n ≡ 2 ^ z * (n / 2 ^ z)) × (n / 2 ^ z % 2 ≡ 1))
+trailing n p l = go (trailingZeros 32 n) (odd-part 32 n p l)
+  where
+    go : (z : ℕ) → (q : ℕ) × (n ≡ 2 ^ z * q) × (q % 2 ≡ 1) → (z < 32) × ((n ≡ 2 ^ z * (n / 2 ^ z)) × (n / 2 ^ z % 2 ≡ 1))
+    go z t =
+        let quotient : n / 2 ^ z ≡ t .0 = ap (λ (k : ℕ). k / 2 ^ z) (t .1) ∙ mul-div-cancel-left (t .0) (pow-pos z) in
+        (zeros-below 32 n z (t .0) l (t .1) (t .2), (rw quotient (t .1), rw quotient (t .2)))
+
+-- a plus leaves the sign, a minus turns it
+pub plus-sign : (sign below : ℕ) → sign ≡ 0 → Signs sign below below
+plus-sign sign below e z = ap (λ (s : ℕ). signedBy s (signedBy below z)) (sym e)
+
+pub minus-sign : (sign below : ℕ) → sign ≢ 0 → below ≤ 1 → Signs sign below (1 - below)
+minus-sign zero below n h z = absurd (n refl)
+minus-sign (suc s) zero n h z = refl
+minus-sign (suc s) (suc zero) n h z = omega (integers, negation z, negation (negℤ z))
+minus-sign (suc s) (suc (suc b)) n h z = absurd (omega arith)
+
+-- the byte of a digit
+pub plus-byte : (sign n : ℕ) → sign ≡ 0 → n ≤ 32 → n ≡ byteOf (signedBy sign (pos n))
+unfolding byteOf
+plus-byte sign n e h = sym (ap (λ (s : ℕ). byteOf (signedBy s (pos n))) e ∙ omega arith)
+
+pub minus-byte : (sign n : ℕ) → sign ≢ 0 → 1 ≤ n → n ≤ 32 → 256 - n ≡ byteOf (signedBy sign (pos n))
+unfolding byteOf
+minus-byte zero n h l k = absurd (h refl)
+minus-byte (suc s) n h l k = sym (byte-negated (pos n) ∙ omega arith)

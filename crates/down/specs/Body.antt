@@ -1,0 +1,3 @@
+-- What the private contracts of the code speak of.
+pub mod Ahead
+pub mod Window
