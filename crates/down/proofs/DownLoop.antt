@@ -17,7 +17,7 @@ use Rattle.digits.specs.Scalar.{bitLength}
 use Rattle.forms.specs.Residue.{width}
 use Rattle.forms.specs.Residue.Width.{width-least, width-is}
 use Rattle.down.specs.declared.window.Window.{Window}
-use Rattle.down.specs.Body.Window.{sizeOf, WindowOf, Signs}
+use Rattle.down.specs.Body.Window.{sizeOf, WindowOf, Signs, placeOf, byteFor, Placed}
 use Rattle.down.specs.Down.{under, worth, beyond, taken, window, places}
 use Rattle.down.specs.Down.Settled.{worth-size}
 use Rattle.down.specs.Down.Unfold.{places-step}
@@ -33,47 +33,42 @@ chosen : (c : Bool) (W : ℕ) → 2 ≤ W → W ≤ 6 → (1 ≤ cond c (W - 1) 
 chosen true W h l = (omega arith, omega arith)
 chosen false W h l = (omega arith, omega arith)
 
--- a window r that is taken s places below the top: its digit has a place in the buffer, and is small; and it is stored
-pub record DigitTurn (m u sign P : ℕ) (out : List ℕ) (n s long heavy t : ℕ) (r : Window) : Type 0 where
-  pub narrow : r .width ≤ 6
-  pub above : r .width ≤ n - s + r .zeros
-  pub below : r .zeros < r .width
-  pub small : (1 ≤ r .odd) × (r .odd ≤ 32)
-  pub within : (place : ℕ) → place ≡ n - s + r .zeros - r .width → place < length out
-  pub stored : (next place byte long′ minus : ℕ) → next ≡ n - s - r .width → place ≡ n - s + r .zeros - r .width → Signs sign t minus → byte ≡ byteOf (signedBy minus (pos (r .odd)))
-      → (long ≡ 0 → long′ ≡ place + 1) × (long ≢ 0 → long′ ≡ long) → Turn m u sign P (set out place byte) next long′ (heavy + 1)
+-- a window r whose highest place is `top`: its digit has a place in the buffer, and is stored
+pub record DigitTurn (m u sign P : ℕ) (out : List ℕ) (top long heavy t : ℕ) (r : Window) : Type 0 where
+  pub some : 1 ≤ r .width
+  pub placed : top ≤ 1024 → Placed top r (length out)
+  pub stored : (next : ℕ) (out′ : List ℕ) (long′ minus : ℕ) → next ≡ suc top - r .width → out′ ≡ set out (placeOf top r) (byteFor r minus) → Signs sign t minus
+      → (long ≡ 0 → long′ ≡ placeOf top r + 1) × (long ≢ 0 → long′ ≡ long) → Turn m u sign P out′ next long′ (heavy + 1)
 
 -- where the digit stands in the window's places from place 0 on
-place-at : (top w z place : ℕ) → w ≤ top + z → place ≡ top + z - w → place ≡ top - w + (z - (w - top))
-place-at top w z place h e = omega arith
+here-is : (top w z here : ℕ) → w ≤ suc top + z → here ≡ top + 1 + z - w → here ≡ suc top - w + (z - (w - suc top))
+here-is top w z here h e = omega arith
 
-all-places : (top w z : ℕ) → w ≤ top + z → z < w → top ≡ top - w + (z - (w - top) + suc (w - suc z))
-all-places top w z h l = omega arith
+all-places : (n w z : ℕ) → w ≤ n + z → z < w → n ≡ n - w + (z - (w - n) + suc (w - suc z))
+all-places n w z h l = omega arith
 
-module _ {m u sign P : ℕ} (one : 1 ≤ m) {out : List ℕ} {n long heavy : ℕ} (turn : Turn m u sign P out n long heavy) (left : 0 < n)
-    {x t : ℕ} (ahead : Ahead u (n - 1) x t) (b : ℕ) (is : b ≡ bitLength x) where
-  -- equal bits are skipped
-  pub skipped : (n′ : ℕ) → n′ ≡ n - (24 - b) → Turn m u sign P out n′ long heavy
-  skipped n′ e =
-      let z : ℕ = n - n′ in
-      let zeros = run-zeros m u one z (n - 1) (omega arith) (λ k l. equal ahead b is k (omega arith) ∙ sym (equal ahead b is (suc k) (omega arith))) in
-      skip m u sign P one turn n′ z (omega arith)
-      (ap (places m u) {x = n} {y = suc (n - 1)} (omega arith) ∙ zeros ∙ ap (λ (k : ℕ). places m u k ++ replicate z (pos 0)) {x = suc (n - 1) - z} {y = n′} (omega arith))
-
+module _ {m u sign P : ℕ} (one : 1 ≤ m) {out : List ℕ} {i long heavy : ℕ} (turn : Turn m u sign P out (suc i) long heavy) {x t : ℕ} (ahead : Ahead u i x t) (b : ℕ) (is : b ≡ bitLength x) where
   abbrev s : ℕ
   s = 24 - b
 
-  -- below them a place is left, where the bits do not end with zeros
-  pub reached : 1 ≤ b → b ≤ 24 → s < n
-  reached h l = omega (arith, inside ahead b is s (omega arith) h)
+  -- equal bits are skipped
+  pub skipped : (n : ℕ) → n ≡ suc i - s → Turn m u sign P out n long heavy
+  skipped n e =
+      let z : ℕ = suc i - n in
+      let zeros = run-zeros m u one z i (omega arith) (λ k l. equal ahead b is k (omega arith) ∙ sym (equal ahead b is (suc k) (omega arith))) in
+      skip m u sign P one turn n z (omega arith) (zeros ∙ ap (λ (k : ℕ). places m u k ++ replicate z (pos 0)) {x = suc i - z} {y = n} (omega arith))
+
+  -- the last of them is not below place 0, where a bit below it differs
+  pub reached : 1 ≤ b → b ≤ 24 → s ≤ i
+  reached h l = inside ahead b is s (omega arith) h
 
   -- a window
   module _ (seven : 7 ≤ b) (few : b ≤ 24) (W : ℕ) (wide : W ≡ width m) (bounds : (2 ≤ W) × (W ≤ 6)) (r : Window) (made : WindowOf m x b W r) where
-    some-left : s < n
-    some-left = reached (omega arith) few
+    within-place : s ≤ i
+    within-place = reached (omega arith) few
 
     abbrev j : ℕ
-    j = n - 1 - s
+    j = i - s
 
     abbrev v : ℕ
     v = r .width - 1
@@ -94,8 +89,8 @@ module _ {m u sign P : ℕ} (one : 1 ≤ m) {out : List ℕ} {n long heavy : ℕ
     value = worth-is ahead b is s (omega arith) (omega arith) v (omega (arith, takes)) ∙ ap (λ (k : ℕ). signedBy t (pos k)) sized
 
     -- the digit's place is there
-    above : r .width ≤ n - s + r .zeros
-    above = omega (arith, takes, some-left, zeros-reach ahead b is s (omega arith) (omega arith) v (omega (arith, takes)) (r .zeros) (r .odd) sized (made .odd))
+    above : r .width ≤ suc j + r .zeros
+    above = omega (arith, whole, zeros-reach ahead b is s (omega arith) (omega arith) v (omega (arith, takes)) (r .zeros) (r .odd) sized (made .odd))
 
     below : r .zeros < r .width
     below = omega (arith, takes, zeros-within u j v t (r .zeros) (r .odd) value (made .odd))
@@ -121,27 +116,30 @@ module _ {m u sign P : ℕ} (one : 1 ≤ m) {out : List ℕ} {n long heavy : ℕ
     odd-size = ap (λ (k : ℕ). k % 2) (signed-size t (pos (r .odd))) ∙ made .odd
 
     -- the digits of the places that it takes
-    abbrev n′ : ℕ
-    n′ = n - s - r .width
-
-    digits : places m u (n - s) ≡ places m u n′ ++ alone (r .zeros - (r .width - (n - s))) d (r .width - suc (r .zeros))
+    digits : places m u (suc j) ≡ places m u (suc j - r .width) ++ alone (r .zeros - (r .width - suc j)) d (r .width - suc (r .zeros))
     digits =
-        let top : n - s ≡ suc j = omega (arith, some-left) in
-        rw (top, ← whole)
+        rw (← whole)
         (subst (λ (k : ℕ). places m u (suc j) ≡ places m u (suc j - k) ++ window u j k) as-taken (places-step m u j one)
         ∙ ap (λ (ds : List ℤ). places m u (suc j - suc v) ++ ds) (window-is u j v t (r .zeros) (r .odd) value (made .odd) (omega (arith, above))))
 
-    pub digit-turn : DigitTurn m u sign P out n s long heavy t r
-    digit-turn =
+    turn-at : DigitTurn m u sign P out j long heavy t r
+    turn-at =
         record {
-          narrow = takes .1;
-          above = above;
-          below = below;
-          small = small;
-          within = λ place f. omega (arith, f, above, below, some-left, turn .size, out-length m u sign P one turn);
-          stored = λ next place byte long′ minus e f signs g l.
-              subst (λ (k : ℕ). Turn m u sign P (set out place byte) k long′ (heavy + 1)) (sym e)
-              (store m u sign P one (skipped (n - s) refl) n′ (r .zeros - (r .width - (n - s))) d (r .width - suc (r .zeros)) place byte long′
-              (all-places (n - s) (r .width) (r .zeros) above below) digits (λ z. omega (arith, odd-size, ap natAbs z)) (count-odd d odd-size)
-              (place-at (n - s) (r .width) (r .zeros) place above f) (g ∙ ap byteOf (signs (pos (r .odd)))) l);
+          some = takes .0;
+          placed = λ few-places.
+              record {
+                above = omega (arith, above);
+                within = omega (arith, above, below, within-place, turn .size, out-length m u sign P one turn);
+                small = small;
+                near = omega (arith, few-places, below, takes);
+              };
+          stored = λ next out′ long′ minus e f signs l.
+              subst (λ (k : ℕ). Turn m u sign P out′ k long′ (heavy + 1)) (sym e)
+              (subst (λ (o : List ℕ). Turn m u sign P o (suc j - r .width) long′ (heavy + 1)) (sym f)
+              (store m u sign P one (skipped (suc j) (omega (arith, within-place))) (suc j - r .width) (r .zeros - (r .width - suc j)) d (r .width - suc (r .zeros)) (placeOf j r) (byteFor r minus) long′
+              (all-places (suc j) (r .width) (r .zeros) above below) digits (λ z. omega (arith, odd-size, ap natAbs z)) (count-odd d odd-size)
+              (here-is j (r .width) (r .zeros) (placeOf j r) above refl) (ap byteOf (signs (pos (r .odd)))) l));
         }
+
+    pub digit-turn : (top : ℕ) → top ≡ j → DigitTurn m u sign P out top long heavy t r
+    digit-turn top e = subst (λ (k : ℕ). DigitTurn m u sign P out k long heavy t r) (sym e) turn-at

@@ -15,14 +15,14 @@ use Rattle.digits.specs.Scalar.Value.{little-append, scalar-below, scalar-zero,
 use Rattle.down.specs.Body.Ahead.{four}
 use Rattle.down.specs.Down.Bits.{shifted}
 
-scalar-append : (s t : List ℕ) → scalar (s ++ t) ≡ scalar t + 256 ^ length t * scalar s
+pub scalar-append : (s t : List ℕ) → scalar (s ++ t) ≡ scalar t + 256 ^ length t * scalar s
 unfolding scalar
 scalar-append s t =
     ap little (reverse-append s t) ∙ little-append (reverse t) (reverse s)
     ∙ ap (λ (n : ℕ). little (reverse t) + 256 ^ n * little (reverse s)) (length-reverse t)
 
 -- the first k bytes are what is left above the other q
-first-bytes : (s : List ℕ) (k q : ℕ) → Bytes s → k + q ≡ length s → scalar s / 256 ^ q ≡ scalar (take k s)
+pub first-bytes : (s : List ℕ) (k q : ℕ) → Bytes s → k + q ≡ length s → scalar s / 256 ^ q ≡ scalar (take k s)
 first-bytes s k q bytes e =
     let rest : length (drop k s) ≡ q = length-drop k s ∙ omega arith in
     let low : scalar (drop k s) < 256 ^ q = rw rest at (scalar-below (drop k s) (λ i. rw (getD-drop k s i 0) (bytes (k + i)))) in
@@ -38,7 +38,7 @@ one-more s k next e h =
     ap (λ (n : ℕ). scalar (take n s)) e ∙ ap scalar (take-suc s k 0 h) ∙ scalar-append (take k s) (getD s k 0 ∷ []) ∙ omega arith
 
 -- four more
-four-more : (s : List ℕ) (p : ℕ) → p + 3 < length s → scalar (take (p + 4) s) ≡ four s p + 2 ^ 32 * scalar (take p s)
+pub four-more : (s : List ℕ) (p : ℕ) → p + 3 < length s → scalar (take (p + 4) s) ≡ four s p + 2 ^ 32 * scalar (take p s)
 four-more s p h =
     let more = one-more s in
     omega (arith, more p (p + 1) (omega arith) (omega arith), more (p + 1) (p + 2) (omega arith) (omega arith), more (p + 2) (p + 3) (omega arith) (omega arith), more (p + 3) (p + 4) (omega arith) (omega arith))

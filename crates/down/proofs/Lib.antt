@@ -1,5 +1,6 @@
 -- Laws that the functions' proofs cite.
 pub mod FourBytes
+pub mod Reading
 pub mod BitLength
 pub mod WindowSize
 pub mod AheadBits

@@ -17,7 +17,7 @@ use Rattle.digits.specs.Scalar.{bitLength}
 use Rattle.recode.specs.Call.{wroteRow, filled}
 use Rattle.recode.specs.declared.answer.Recoded.the-variants.{Written}
 use Rattle.down.specs.Down.{places, onto, trimmed, natural}
-use Rattle.down.specs.Down.Row.{natural-start}
+use Rattle.down.specs.Down.Row.{natural-from}
 use Rattle.down.specs.Down.Trimmed.{trimmed-weight, trimmed-rest}
 use Rattle.down.specs.Down.Unfold.{places-zero}
 use Rattle.down.proofs.DigitPlaces.{alone}
@@ -196,7 +196,7 @@ module _ (m u sign P : ℕ) (some-window : 1 ≤ m) where
         }
 
 -- where no place is left, the row is done
-pub finish : (m u sign : ℕ) → 1 ≤ m → {out : List ℕ} {P long heavy : ℕ} (out₀ : List ℕ) → length out₀ ≡ P → P ≡ bitLength u + 1 → Turn m u sign P out 0 long heavy
+pub finish : (m u sign : ℕ) → 1 ≤ m → {out : List ℕ} {P long heavy : ℕ} (out₀ : List ℕ) → length out₀ ≡ P → bitLength u + 1 ≤ P → Turn m u sign P out 0 long heavy
     → (Written long heavy ≡ wroteRow (map (signedBy sign) (natural m u))) × (out ≡ filled (map (signedBy sign) (natural m u)) out₀)
 finish m u sign h {out} {P} {long} {heavy} out₀ e p t = (ap₂ Written length-is weight-is, buffer-is)
   where
@@ -205,8 +205,8 @@ finish m u sign h {out} {P} {long} {heavy} out₀ e p t = (ap₂ Written length-
 
     is : row ≡ trimmed (t .upper)
     is =
-        natural-start m u h
-        ∙ ap trimmed (ap (places m u) (sym p) ∙ t .whole ∙ ap (λ (l : List ℤ). l ++ t .upper) (places-zero m u))
+        natural-from m u h (P - (bitLength u + 1))
+        ∙ ap trimmed (ap (places m u) (omega arith) ∙ t .whole ∙ ap (λ (l : List ℤ). l ++ t .upper) (places-zero m u))
 
     length-is : long ≡ length (map (signedBy sign) row)
     length-is = highest-length (t .highest) ∙ ap length (sym is) ∙ sym (length-map row (signedBy sign))

@@ -2,13 +2,13 @@
 -- line 9; and the sign and the byte of its digit.
 use mathlib.Core.Path.{_≡_, refl, sym, ap, _∙_}
 use mathlib.Core.Logic.{_≢_}
-use mathlib.Core.Bool.{Bool, true, false, cond}
+use mathlib.Core.Bool.{Bool, cond}
 use Prim.Native.Nat.{ℕ, zero, suc, _+_, _*_, _-_, _/_, _%_, _^_, _≤_, _<_}
 use native.Mathlib.Nat.{mul-le-mul-left, mul-div-cancel-left, lt-of-not-le, le-div-iff-mul-le}
 use native.Mathlib.Omega.{arith}
 use lib.Count.{trailingZeros}
 use lib.IntN.{ℤ, pos, negℤ}
-use lib.Pow.{pow-pos, pow-mono, shr-le}
+use lib.Pow.{pow-pos, pow-mono}
 use Rattle.digits.specs.Byte.{byteOf, turned}
 use Rattle.digits.specs.Byte.Signed.{byte-negated}
 use Rattle.digits.specs.Integer.{signedBy}
@@ -16,16 +16,19 @@ use Rattle.digits.specs.Integer.Parts.{integers, negation}
 use Rattle.digits.specs.Scalar.{bitLength}
 use Rattle.digits.specs.Scalar.Length.{length-least}
 use Rattle.digits.specs.Scalar.Zeros.{odd-part}
-use Rattle.down.specs.Body.Window.{sizeOf, Signs}
+use Rattle.down.specs.declared.window.Window.{Window}
+use Rattle.down.specs.Body.Window.{sizeOf, WindowOf, Signs}
+use Rattle.down.specs.Down.{beyond}
 
--- one place fewer, or none
-pub few : (b : Bool) → cond b 1 0 ≤ 1
-few true = omega arith
-few false = omega arith
-
-pub less-few : (b : Bool) (w : ℕ) → w - cond b 1 0 ≡ cond b (w - 1) w
-less-few true w = refl
-less-few false w = omega arith
+-- the window of w places, where the test of line 9 tells w
+pub window-made : (m x b W n w k : ℕ) (narrow : Bool) (r : Window) → n ≡ sizeOf x b W → beyond m (pos n) ≡ narrow → w ≡ cond narrow (W - 1) W → k ≡ sizeOf x b w
+    → (r .width ≡ w) × ((k ≡ 2 ^ r .zeros * r .odd) × (r .odd % 2 ≡ 1)) → WindowOf m x b W r
+window-made m x b W n w k narrow r e f g h made =
+    record {
+      width = made .0 ∙ g ∙ ap (λ (c : Bool). cond c (W - 1) W) (sym f ∙ ap (λ (y : ℕ). beyond m (pos y)) e);
+      size = ap (sizeOf x b) (made .0) ∙ sym h ∙ made .1 .0;
+      odd = made .1 .1;
+    }
 
 -- a number of b bits is at least 2^k for every k below b
 pub at-least : (x b k : ℕ) → b ≡ bitLength x → k < b → 2 ^ k ≤ x
@@ -36,9 +39,6 @@ pub size-some : (x b w : ℕ) → b ≡ bitLength x → 1 ≤ w → w ≤ b → 
 size-some x b w e h l =
     let one : 1 ≤ x / 2 ^ (b - w) = le-div-iff-mul-le (pow-pos (b - w)) .1 (omega (arith, at-least x b (b - w) e (omega arith))) in
     omega arith
-
-pub size-few : (x b w : ℕ) → x < 2 ^ 24 → sizeOf x b w < 2 ^ 32
-size-few x b w h = omega (arith, shr-le x (b - w))
 
 -- fewer zeros than bits
 zeros-below : (k n z q : ℕ) → n < 2 ^ k → n ≡ 2 ^ z * q → q % 2 ≡ 1 → z < k

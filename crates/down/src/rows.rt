@@ -2,26 +2,21 @@ ghost use mathlib.Core.Path.{_≡_};
 ghost use mathlib.Core.Logic.{_≢_};
 ghost use mathlib.Core.List.{map};
 ghost use Prim.Native.Nat.{_+_, _-_, _*_, _<_, _≤_};
-ghost use lib.ListN.{length, replicate};
+ghost use lib.ListN.{length, set, replicate};
 ghost use Rattle.digits.specs.Integer.{signedBy};
 ghost use Rattle.digits.specs.Limits.{card, gateway};
 ghost use Rattle.digits.specs.Row.{widest};
 ghost use Rattle.digits.specs.Scalar;
-ghost use Rattle.digits.specs.Scalar.{signedScalar, bitLength};
+ghost use Rattle.digits.specs.Scalar.{signedScalar};
 ghost use Rattle.forms.specs.Residue;
 ghost use Rattle.recode.specs.Call.{number, wroteRow, filled, rowQuestion};
+ghost use Rattle.down.specs.Body.Window.{placeOf, byteFor, Placed};
 ghost use Rattle.down.specs.Call.{downAnswer, downBuffer, DownPromised};
 ghost use Rattle.down.specs.Down.{natural, down};
+use crate::bits::Bits;
+use crate::window::Window;
 use digits::Limits;
 use recode::Recoded;
-
-// The places left below those taken.
-fn left_of(n: usize, taken: u32) -> usize
-    ensures { λ r. ⌜ r ≡ n - taken ⌝ }
-{
-    let places = taken as usize;
-    if places < n { n - places } else { 0 }
-}
 
 // The length of a row, which the first digit from the top tells.
 fn length_of(length: usize, here: usize) -> usize
@@ -30,47 +25,79 @@ fn length_of(length: usize, here: usize) -> usize
     if length == 0 { here } else { length }
 }
 
-// Writes the scalar's row from the top down for the window m of the width W, with a sign, into places that hold 0: one more than its
-// bits. Equal bits are skipped, so every turn but those stores a digit.
+// Stores the digit of a window whose highest place is `top`, and returns the place above it.
+fn store(out: &mut [u8], top: usize, window: Window, sign: u32) -> usize
+    requires { ⌜ Placed top window (length (now out)) ⌝ }
+    ensures { λ r. ⌜ r ≡ placeOf top window + 1 ⌝ }
+    ensures { λ _. ⌜ now (out .exit) ≡ set (now (out .entry)) (placeOf top window) (byteFor window sign) ⌝ }
+{
+    let here = top + 1 + window.zeros as usize - window.width as usize;
+    out[here] = crate::window::byte_of(window.odd, sign);
+    here + 1
+}
+
+// Writes the scalar's row from the top down for the window m of the width W, with a sign, into places that hold 0: eight for each
+// byte, and one more. Equal bits are skipped. A window whose size is odd and not in the window m takes one place fewer: on a path of its own, since a
+// processor foresees it, and does not wait for the test.
 fn write_digits(scalar: &[u8], sign: u32, m: u32, width: u32, out: &mut [u8]) -> Recoded
     requires { ⌜ (length (now scalar) ≤ gateway .bytes) × ((1 ≤ m) × ((m ≤ widest) × (width ≡ Residue.width m))) ⌝ }
-    requires { ⌜ (now out ≡ replicate (length (now out)) 0) × (length (now out) ≡ bitLength (Scalar.scalar (now scalar)) + 1) ⌝ }
+    requires { ⌜ (now out ≡ replicate (length (now out)) 0) × (length (now out) ≡ 8 * length (now scalar) + 1) ⌝ }
     ensures { λ r. ⌜ r ≡ wroteRow (map (signedBy sign) (natural m (Scalar.scalar (now (scalar .entry))))) ⌝ }
     ensures { λ _. ⌜ now (out .exit) ≡ filled (map (signedBy sign) (natural m (Scalar.scalar (now (scalar .entry))))) (now (out .entry)) ⌝ }
 {
-    let mut n = out.len();
+    let mut place = 8 * scalar.len();
+    let mut bits = Bits::new();
     let mut length = 0;
     let mut weight = 0;
-    while 0 < n {
-        let ahead = crate::bits::ahead(scalar, n);
+    loop {
+        let full = bits.filled(scalar);
+        let ahead = full.ahead();
         let x = crate::window::folded(ahead);
-        let bits = crate::bits::bits_of(x);
-        let equal = 24 - bits;
-        if bits < 7 {
-            n = left_of(n, equal);
+        if x < 64 {
+            let equal = 24 - crate::bits::bits_of(x);
+            if place < equal as usize {
+                return Recoded::Written(length, weight);
+            }
+            place -= equal as usize;
+            bits = full.less(equal);
             continue;
         }
-        let top = n - equal as usize;
-        let window = crate::window::window_of(x, bits, m, width);
-        let place = top + window.zeros as usize - window.width as usize;
+        let last = crate::bits::top_of(x);
+        let equal = 23 - last;
+        let top = place - equal as usize;
         let minus = crate::window::signed(ahead >> 24, sign);
-        out[place] = crate::window::byte_of(window.odd, minus);
-        length = length_of(length, place + 1);
+        let size = crate::window::size_of(x, last, width);
+        if (size % 2 == 1) & (m < size) {
+            let fewer = width - 1;
+            let window = crate::window::sized(fewer, crate::window::size_of(x, last, fewer));
+            length = length_of(length, store(out, top, window, minus));
+            weight += 1;
+            if top < fewer as usize {
+                return Recoded::Written(length, weight);
+            }
+            place = top - fewer as usize;
+            bits = full.less(equal + fewer);
+            continue;
+        }
+        let window = crate::window::sized(width, size);
+        length = length_of(length, store(out, top, window, minus));
         weight += 1;
-        n = left_of(top, window.width);
+        if top < width as usize {
+            return Recoded::Written(length, weight);
+        }
+        place = top - width as usize;
+        bits = full.less(equal + width);
     }
-    Recoded::Written(length, weight)
 }
 
-// Writes the row of a scalar with a sign from the top down for the window m, and zeros above it. Of the buffer only the places up to
-// the bit length plus one are lent to the digits.
+// Writes the row of a scalar with a sign from the top down for the window m, and zeros above it. Of the buffer only
+// eight places for each byte and one more are lent to the digits.
 fn write_row(scalar: &[u8], sign: u32, m: u32, out: &mut [u8]) -> Recoded
     requires { ⌜ (length (now scalar) ≤ gateway .bytes) × ((1 ≤ m) × ((m ≤ widest) × (8 * length (now scalar) + 1 ≤ length (now out)))) ⌝ }
     ensures { λ r. ⌜ r ≡ wroteRow (down m (signedScalar (now (scalar .entry)) sign)) ⌝ }
     ensures { λ _. ⌜ now (out .exit) ≡ filled (down m (signedScalar (now (scalar .entry)) sign)) (now (out .entry)) ⌝ }
 {
-    let bits = digits::bit_length(scalar);
-    let places = 8 * bits.below + bits.top as usize + 1;
+    let places = 8 * scalar.len() + 1;
     digits::clear(out);
     let width = crate::bits::bits_of(m) + 1;
     write_digits(scalar, sign, m, width, &mut out[..places])

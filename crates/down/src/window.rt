@@ -1,12 +1,9 @@
 ghost use mathlib.Core.Path.{_≡_};
-ghost use mathlib.Core.Bool.{cond};
-ghost use Prim.Native.Nat.{_-_, _^_, _<_, _≤_};
+ghost use Prim.Native.Nat.{_+_, _*_, _%_, _^_, _<_, _≤_};
 ghost use lib.IntN.{pos};
 ghost use Rattle.digits.specs.Byte.{byteOf};
 ghost use Rattle.digits.specs.Integer.{signedBy};
-ghost use Rattle.digits.specs.Scalar.{bitLength};
-ghost use Rattle.down.specs.Body.Window.{Folded, sizeOf, WindowOf, Signs};
-ghost use Rattle.down.specs.Down.{beyond};
+ghost use Rattle.down.specs.Body.Window.{Folded, sizeOf, Signs};
 
 // A window: how many places it takes, and the size of what it is worth, an odd number above some zeros.
 pub struct Window {
@@ -28,35 +25,21 @@ pub fn folded(ahead: u32) -> u32
 }
 
 // The size of what a window of a width is worth, from the bits of x: half of its top bits, rounded up.
-fn size_of(x: u32, bits: u32, width: u32) -> u32
-    requires { ⌜ (width ≤ bits) × ((bits ≤ 24) × (x < 2 ^ 24)) ⌝ }
-    ensures { λ r. ⌜ r ≡ sizeOf x bits width ⌝ }
+pub fn size_of(x: u32, top: u32, width: u32) -> u32
+    requires { ⌜ ((1 ≤ width) × (width ≤ top + 1)) × ((top ≤ 23) × (x < 2 ^ 24)) ⌝ }
+    ensures { λ r. ⌜ r ≡ sizeOf x (top + 1) width ⌝ }
 {
-    ((x >> (bits - width)) + 1) >> 1
+    ((x >> (top - (width - 1))) + 1) >> 1
 }
 
-// How many places fewer are taken: one where the size is odd and not in the window m.
-fn fewer(size: u32, m: u32) -> u32
-    ensures { λ r. ⌜ r ≡ cond (beyond m (pos size)) 1 0 ⌝ }
+// A window of a width, by the size of what it is worth.
+pub fn sized(width: u32, size: u32) -> Window
+    requires { ⌜ 0 < size ⌝ }
+    ensures { λ r. ⌜ (r .width ≡ width) × ((size ≡ 2 ^ r .zeros * r .odd) × (r .odd % 2 ≡ 1)) ⌝ }
 {
-    if size % 2 == 1 {
-        if m < size {
-            return 1;
-        }
-    }
-    0
-}
-
-// The window of the bits of x, for the window m of the width W.
-pub fn window_of(x: u32, bits: u32, m: u32, width: u32) -> Window
-    requires { ⌜ ((bits ≡ bitLength x) × (x < 2 ^ 24)) × ((7 ≤ bits) × ((2 ≤ width) × (width ≤ 6))) ⌝ }
-    ensures { λ r. ⌜ WindowOf m x bits width r ⌝ }
-{
-    let taken = width - fewer(size_of(x, bits, width), m);
-    let size = size_of(x, bits, taken);
     let zeros = u32::trailing_zeros(size);
     Window {
-        width: taken,
+        width: width,
         zeros: zeros,
         odd: size >> zeros,
     }

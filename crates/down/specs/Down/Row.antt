@@ -60,6 +60,17 @@ module _ (m u : ℕ) (h : 1 ≤ m) where
       ap trimmed (places-equal m u (bitLength u + 1) h (above-top u (bitLength u + 1) 0 (omega arith) ∙ sym (above-top u (bitLength u + 1) 1 (omega arith))))
       ∙ trimmed-zero (places m u (bitLength u + 1))
 
+  -- so have all above it
+  pub natural-from : (k : ℕ) → natural m u ≡ trimmed (places m u (bitLength u + 1 + k))
+  natural-from zero = natural-start ∙ ap (λ (n : ℕ). trimmed (places m u n)) (omega arith)
+  natural-from (suc k) =
+      let i : ℕ = bitLength u + 1 + k in
+      natural-from k
+      ∙ sym (
+      ap (λ (n : ℕ). trimmed (places m u n)) {x = bitLength u + 1 + suc k} {y = suc i} (omega arith)
+      ∙ ap trimmed (places-equal m u i h (above-top u i 0 (omega arith) ∙ sym (above-top u i 1 (omega arith))))
+      ∙ trimmed-zero (places m u i))
+
   all-value : value (places m u (bitLength u + 1)) ≡ pos u
   unfolding near
   all-value =
