@@ -1,20 +1,21 @@
 -- What a window is worth in size, from the top bits of x: it is not 0, and is an odd number above its zeros; its width, by the test of
 -- line 9; and the sign and the byte of its digit.
-use mathlib.Core.Path.{_≡_, refl, sym, ap, _∙_}
+use mathlib.Core.Path.{_≡_, refl, sym, ap, subst, _∙_}
 use mathlib.Core.Logic.{_≢_}
-use mathlib.Core.Bool.{Bool, cond}
+use mathlib.Core.Bool.{Bool, false, cond}
 use Prim.Native.Nat.{ℕ, zero, suc, _+_, _*_, _-_, _/_, _%_, _^_, _≤_, _<_}
-use native.Mathlib.Nat.{mul-le-mul-left, mul-div-cancel-left, lt-of-not-le, le-div-iff-mul-le}
+use native.Mathlib.Nat.{mul-le-mul-left, mul-div-cancel-left, lt-of-not-le, le-div-iff-mul-le, div-lt-iff-lt-mul, pow-succ'}
 use native.Mathlib.Omega.{arith}
 use lib.Count.{trailingZeros}
 use lib.IntN.{ℤ, pos, negℤ}
-use lib.Pow.{pow-pos, pow-mono}
+use lib.Pow.{pow-pos, pow-add, pow-mono}
+use borrow.Author.Tests.{eq-eqb, ne-eqb, le-ltb}
 use Rattle.digits.specs.Byte.{byteOf, turned}
 use Rattle.digits.specs.Byte.Signed.{byte-negated}
 use Rattle.digits.specs.Integer.{signedBy}
 use Rattle.digits.specs.Integer.Parts.{integers, negation}
 use Rattle.digits.specs.Scalar.{bitLength}
-use Rattle.digits.specs.Scalar.Length.{length-least}
+use Rattle.digits.specs.Scalar.Length.{below-length, length-least}
 use Rattle.digits.specs.Scalar.Zeros.{odd-part}
 use Rattle.down.specs.declared.window.Window.{Window}
 use Rattle.down.specs.Body.Window.{sizeOf, WindowOf, Signs}
@@ -29,6 +30,28 @@ window-made m x b W n w k narrow r e f g h made =
       size = ap (sizeOf x b) (made .0) ∙ sym h ∙ made .1 .0;
       odd = made .1 .1;
     }
+
+-- a size of at most 2^(W−1) is never beyond a whole window
+pub whole-within : (m n W : ℕ) → 2 ≤ W → m + 1 ≡ 2 ^ (W - 1) → n ≤ 2 ^ (W - 1) → beyond m (pos n) ≡ false
+whole-within m n W h e l = go (n % 2) refl
+  where
+    even : 2 ^ (W - 1) ≡ 2 * 2 ^ (W - 2)
+    even = ap (λ (k : ℕ). 2 ^ k) {x = W - 1} {y = suc (W - 2)} (omega arith) ∙ pow-succ' 2 (W - 2)
+
+    go : (r : ℕ) → n % 2 ≡ r → beyond m (pos n) ≡ false
+    go zero o = rw (ne-eqb (n % 2) 1 (omega arith)) refl
+    go (suc zero) o = rw (eq-eqb (n % 2) 1 o, le-ltb m n (omega (arith, even))) refl
+    go (suc (suc r)) o = absurd (omega arith)
+
+-- and no size is above it
+pub size-most : (x b W : ℕ) → b ≡ bitLength x → 1 ≤ W → W ≤ b → sizeOf x b W ≤ 2 ^ (W - 1)
+size-most x b W e h l =
+    let under : x / 2 ^ (b - W) < 2 ^ W =
+    div-lt-iff-lt-mul (pow-pos (b - W)) .1
+    (rw (sym (pow-add 2 W (b - W))) (subst (λ (k : ℕ). x < 2 ^ k) (omega arith) (below-length x)))
+    in
+    let twice : 2 ^ W ≡ 2 * 2 ^ (W - 1) = ap (λ (k : ℕ). 2 ^ k) {x = W} {y = suc (W - 1)} (omega arith) ∙ pow-succ' 2 (W - 1) in
+    omega arith
 
 -- a number of b bits is at least 2^k for every k below b
 pub at-least : (x b k : ℕ) → b ≡ bitLength x → k < b → 2 ^ k ≤ x

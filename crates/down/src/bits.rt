@@ -5,6 +5,12 @@ ghost use Rattle.digits.specs.Limits.{gateway};
 ghost use Rattle.digits.specs.Scalar.{bitLength};
 ghost use Rattle.down.specs.Body.Ahead.{four, Filled};
 
+// 2^25.
+const BITS_AHEAD: u64 = 33554432;
+
+// 2^32.
+const WORD: u64 = 4294967296;
+
 // A byte as a wider number.
 fn wide(byte: u8) -> u32
     ensures { λ r. ⌜ (r ≡ byte) × (r < 256) ⌝ }
@@ -83,7 +89,7 @@ impl Bits {
         Bits {
             at: at + 4,
             held: held + 32,
-            bits: bits % 4294967296 * 4294967296 + word,
+            bits: bits % WORD * WORD + word,
         }
     }
 
@@ -92,7 +98,7 @@ impl Bits {
         requires { ⌜ (32 ≤ self .held) × (self .held ≤ 63) ⌝ }
         ensures { λ r. ⌜ r ≡ self .bits / 2 ^ (self .held - 25) % 2 ^ 25 ⌝ }
     {
-        ((self.bits >> (self.held - 25)) % 33554432) as u32
+        ((self.bits >> (self.held - 25)) % BITS_AHEAD) as u32
     }
 
     // Without the highest ones.

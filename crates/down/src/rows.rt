@@ -36,15 +36,15 @@ fn store(out: &mut [u8], top: usize, window: Window, sign: u32) -> usize
     here + 1
 }
 
-// Writes the scalar's row from the top down for the window m of the width W, with a sign, into places that hold 0: eight for each
-// byte, and one more. Equal bits are skipped. A window whose size is odd and not in the window m takes one place fewer: on a path of its own, since a
-// processor foresees it, and does not wait for the test.
+// Writes the scalar's row from the top down for the window m of the width W, with a sign, into places that hold 0: eight for each byte,
+// and one more. The bits equal to the highest one left are skipped, at most 24 at a turn; 25 are enough for them and a window.
 fn write_digits(scalar: &[u8], sign: u32, m: u32, width: u32, out: &mut [u8]) -> Recoded
     requires { ⌜ (length (now scalar) ≤ gateway .bytes) × ((1 ≤ m) × ((m ≤ widest) × (width ≡ Residue.width m))) ⌝ }
     requires { ⌜ (now out ≡ replicate (length (now out)) 0) × (length (now out) ≡ 8 * length (now scalar) + 1) ⌝ }
     ensures { λ r. ⌜ r ≡ wroteRow (map (signedBy sign) (natural m (Scalar.scalar (now (scalar .entry))))) ⌝ }
     ensures { λ _. ⌜ now (out .exit) ≡ filled (map (signedBy sign) (natural m (Scalar.scalar (now (scalar .entry))))) (now (out .entry)) ⌝ }
 {
+    let whole = crate::window::is_whole(m, width);
     let mut place = 8 * scalar.len();
     let mut bits = Bits::new();
     let mut length = 0;
@@ -67,26 +67,27 @@ fn write_digits(scalar: &[u8], sign: u32, m: u32, width: u32, out: &mut [u8]) ->
         let top = place - equal as usize;
         let minus = crate::window::signed(ahead >> 24, sign);
         let size = crate::window::size_of(x, last, width);
-        if (size % 2 == 1) & (m < size) {
-            let fewer = width - 1;
-            let window = crate::window::sized(fewer, crate::window::size_of(x, last, fewer));
+        // A path of its own, which the processor foresees: the next place does not wait for the size.
+        if whole {
+            let window = crate::window::sized(width, size);
             length = length_of(length, store(out, top, window, minus));
             weight += 1;
-            if top < fewer as usize {
+            if top < width as usize {
                 return Recoded::Written(length, weight);
             }
-            place = top - fewer as usize;
-            bits = full.less(equal + fewer);
+            place = top - width as usize;
+            bits = full.less(equal + width);
             continue;
         }
-        let window = crate::window::sized(width, size);
+        let taken = crate::window::width_for(size, m, width);
+        let window = crate::window::sized(taken, crate::window::size_of(x, last, taken));
         length = length_of(length, store(out, top, window, minus));
         weight += 1;
-        if top < width as usize {
+        if top < taken as usize {
             return Recoded::Written(length, weight);
         }
-        place = top - width as usize;
-        bits = full.less(equal + width);
+        place = top - taken as usize;
+        bits = full.less(equal + taken);
     }
 }
 

@@ -1,9 +1,17 @@
 ghost use mathlib.Core.Path.{_≡_};
-ghost use Prim.Native.Nat.{_+_, _*_, _%_, _^_, _<_, _≤_};
+ghost use mathlib.Core.Bool.{true, cond};
+ghost use Prim.Native.Nat.{_+_, _-_, _*_, _%_, _^_, _<_, _≤_};
 ghost use lib.IntN.{pos};
 ghost use Rattle.digits.specs.Byte.{byteOf};
 ghost use Rattle.digits.specs.Integer.{signedBy};
+ghost use Rattle.digits.specs.Row.{widest};
 ghost use Rattle.down.specs.Body.Window.{Folded, sizeOf, Signs};
+ghost use Rattle.down.specs.Down.{beyond};
+
+// 2^24, and 2^25 − 1: the top one of 25 bits, and all of them.
+const TOP_BIT: u32 = 16777216;
+
+const ALL_BITS: u32 = 33554431;
 
 // A window: how many places it takes, and the size of what it is worth, an odd number above some zeros.
 pub struct Window {
@@ -17,10 +25,10 @@ pub fn folded(ahead: u32) -> u32
     requires { ⌜ ahead < 2 ^ 25 ⌝ }
     ensures { λ r. ⌜ Folded ahead r ⌝ }
 {
-    if ahead < 16777216 {
+    if ahead < TOP_BIT {
         ahead
     } else {
-        33554431 - ahead
+        ALL_BITS - ahead
     }
 }
 
@@ -42,6 +50,26 @@ pub fn sized(width: u32, size: u32) -> Window
         width: width,
         zeros: zeros,
         odd: size >> zeros,
+    }
+}
+
+// Whether the digits of a window are all odd numbers below 2^(W−1), so that the smaller width is never taken.
+pub fn is_whole(m: u32, width: u32) -> bool
+    requires { ⌜ (2 ≤ width) × ((width ≤ 6) × (m ≤ widest)) ⌝ }
+    ensures { λ r. ⌜ (r ≡ true → m + 1 ≡ 2 ^ (width - 1)) ⌝ }
+{
+    m + 1 == 1u32 << (width - 1)
+}
+
+// How many places are taken: one fewer where the size is odd and not in the window m.
+pub fn width_for(size: u32, m: u32, width: u32) -> u32
+    requires { ⌜ 1 ≤ width ⌝ }
+    ensures { λ r. ⌜ r ≡ cond (beyond m (pos size)) (width - 1) width ⌝ }
+{
+    if (size % 2 == 1) & (m < size) {
+        width - 1
+    } else {
+        width
     }
 }
 

@@ -23,7 +23,12 @@ pub extern "C" fn sheets_gateway_row(scalar: &[u8], sign: u32, m: u32, digits: &
 
 // The row of a scalar for the window m, from the top down.
 #[no_mangle]
-pub extern "C" fn sheets_gateway_row_down(scalar: &[u8], sign: u32, m: u32, digits: &mut [u8]) -> u64
+pub extern "C" fn sheets_gateway_row_down(
+    scalar: &[u8],
+    sign: u32,
+    m: u32,
+    digits: &mut [u8],
+) -> u64
     ensures answer { λ r. ⌜ r ≡ toldRecoded (downAnswer gateway (now (scalar .entry)) sign m (length (now (digits .entry)))) ⌝ }
     ensures buffer { λ _. ⌜ now (digits .exit) ≡ downBuffer gateway (now (scalar .entry)) sign m (now (digits .entry)) ⌝ }
 {
