@@ -2,15 +2,14 @@
 -- it takes. The bits are read as one number, of which x is what is above a multiple of 2^25, or below one where the top bit is set.
 use mathlib.Core.Path.{_≡_, refl, sym, ap, ap₂, subst, _∙_}
 use mathlib.Core.Logic.{_≢_}
-use mathlib.Core.Bool.{Bool, true, false, not, cond}
+use mathlib.Core.Bool.{cond}
 use Prim.Native.Nat.{ℕ, zero, suc, _+_, _*_, _-_, _/_, _%_, _^_, _≤_, _<_}
 use native.Mathlib.Nat.{mul-add, mul-assoc, mul-comm, div-div-eq-div-mul, mul-div-mul-left, add-mul-div-left, mul-div-cancel-left, div-add-mod, mod-lt, div-eq-of-lt, div-eq-of-lt-le, lt-of-mul-lt-mul-left, add-comm}
 use native.Mathlib.Omega.{arith}
-use lib.Dec.{eqb}
-use lib.IntN.{ℤ, pos, negℤ, natAbs}
+use lib.IntN.{pos, natAbs}
 use lib.Pow.{pow-add, pow-pos, pow-mono}
 use borrow.Author.Tests.{ne-eqb}
-use Rattle.digits.specs.Integer.{up, down, signedBy}
+use Rattle.digits.specs.Integer.{signedBy}
 use Rattle.digits.specs.Integer.Congruent.{power-step, power-split}
 use Rattle.digits.specs.Integer.Parts.{integers, one-side, negation}
 use Rattle.digits.specs.Integer.Sign.{signed-size}

@@ -1,14 +1,13 @@
 -- The digits of a window whose value is 2^z times an odd number: that number at its place, and zeros about it. And a run of equal bits
 -- is a run of zeros. From the digits of a value by its parity.
-use mathlib.Core.Path.{_≡_, refl, sym, ap, ap₂, _∙_}
+use mathlib.Core.Path.{_≡_, sym, ap, _∙_}
 use mathlib.Core.List.{List, [], _∷_, _++_, append-assoc, append-nil}
 use Prim.Native.Nat.{ℕ, zero, suc, _+_, _*_, _-_, _%_, _^_, _≤_, _<_}
 use native.Mathlib.Nat.{mul-le-mul-left, le-of-suc-le-suc, one-mul}
 use native.Mathlib.Omega.{arith}
 use lib.IntN.{ℤ, pos, negℤ, natAbs}
-use lib.ListN.{drop, replicate, replicate-append-replicate}
+use lib.ListN.{drop, replicate}
 use lib.Pow.{pow-lt}
-use borrow.Author.Tests.{eq-eqb}
 use Rattle.digits.specs.Integer.{half, signedBy}
 use Rattle.digits.specs.Integer.Congruent.{power-step}
 use Rattle.digits.specs.Integer.Parts.{integers, one-side, size, negation, half-even}

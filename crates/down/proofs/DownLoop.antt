@@ -3,7 +3,7 @@ use mathlib.Core.Path.{_≡_, refl, sym, ap, subst, _∙_}
 use mathlib.Core.Logic.{_≢_}
 use mathlib.Core.Bool.{Bool, true, false, cond}
 use mathlib.Core.List.{List, _++_}
-use Prim.Native.Nat.{ℕ, zero, suc, _+_, _*_, _-_, _/_, _%_, _^_, _≤_, _<_}
+use Prim.Native.Nat.{ℕ, suc, _+_, _*_, _-_, _%_, _^_, _≤_, _<_}
 use native.Mathlib.Nat.{mul-le-mul-left}
 use native.Mathlib.Omega.{arith}
 use lib.IntN.{ℤ, pos, natAbs}
@@ -18,20 +18,21 @@ use Rattle.forms.specs.Residue.{width}
 use Rattle.forms.specs.Residue.Width.{width-least, width-is}
 use Rattle.down.specs.declared.window.Window.{Window}
 use Rattle.down.specs.Body.Window.{sizeOf, WindowOf, Signs, placeOf, byteFor, Placed}
-use Rattle.down.specs.Down.{under, worth, beyond, taken, window, places}
+use Rattle.down.specs.Down.{worth, beyond, taken, window, places}
 use Rattle.down.specs.Down.Settled.{worth-size}
 use Rattle.down.specs.Down.Unfold.{places-step}
 use Rattle.down.proofs.AheadBits.{Ahead, equal, inside, worth-is, zeros-reach, taken-is}
 use Rattle.down.proofs.DigitPlaces.{alone, zeros-within, window-is, run-zeros}
-use Rattle.down.proofs.Turns.{Turn, skip, store, light, out-length}
+use Rattle.down.proofs.Turns.{Turn, skip, store, out-length}
 
 -- the width of a window of at most 31
 pub width-few : (m : ℕ) → 1 ≤ m → m ≤ 31 → (2 ≤ width m) × (width m ≤ 6)
 width-few m h l = (omega (arith, width-is m h .is), width-least m h .1 6 (omega arith))
 
-chosen : (c : Bool) (W : ℕ) → 2 ≤ W → W ≤ 6 → (1 ≤ cond c (W - 1) W) × (cond c (W - 1) W ≤ 6)
-chosen true W h l = (omega arith, omega arith)
-chosen false W h l = (omega arith, omega arith)
+-- one place fewer than a width, or none
+pub chosen : (c : Bool) (W : ℕ) → 2 ≤ W → (1 ≤ cond c (W - 1) W) × (cond c (W - 1) W ≤ W)
+chosen true W h = (omega arith, omega arith)
+chosen false W h = (omega arith, omega arith)
 
 -- a window r whose highest place is `top`: its digit has a place in the buffer, and is stored
 pub record DigitTurn (m u sign P : ℕ) (out : List ℕ) (top long heavy t : ℕ) (r : Window) : Type 0 where
@@ -74,7 +75,8 @@ module _ {m u sign P : ℕ} (one : 1 ≤ m) {out : List ℕ} {i long heavy : ℕ
     v = r .width - 1
 
     takes : (1 ≤ r .width) × (r .width ≤ 6)
-    takes = rw (made .width) (chosen (beyond m (pos (sizeOf x b W))) W (bounds .0) (bounds .1))
+    takes =
+        let c = chosen (beyond m (pos (sizeOf x b W))) W (bounds .0) in rw (made .width) (c .0, omega (arith, c .1, bounds .1))
 
     whole : suc v ≡ r .width
     whole = omega (arith, takes)

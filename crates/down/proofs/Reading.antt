@@ -10,12 +10,11 @@ use lib.Dec.{T, leb, leb→le, nleb→lt}
 use lib.ListN.{length, getD, take, replicate, length-append}
 use lib.Pow.{pow-add, pow-pos}
 use Rattle.digits.specs.Buffer.Zeros.{padded-at}
-use Rattle.digits.specs.Integer.Congruent.{power-split}
 use Rattle.digits.specs.Scalar.{Bytes, little, scalar}
 use Rattle.digits.specs.Scalar.Value.{scalar-below, bytes-power}
 use Rattle.down.specs.declared.bits.Bits.{Bits}
 use Rattle.down.specs.Body.Ahead.{four, Filled}
-use Rattle.down.specs.Down.Bits.{shifted, shifted-half, shifted-up}
+use Rattle.down.specs.Down.Bits.{shifted, shifted-up}
 use Rattle.down.proofs.FourBytes.{scalar-append, first-bytes, four-more}
 
 -- ── numbers that agree in their low bits ────────────────────────────────────────────────────

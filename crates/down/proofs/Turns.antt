@@ -3,10 +3,10 @@
 use mathlib.Core.Path.{_≡_, refl, sym, ap, ap₂, _∙_}
 use mathlib.Core.Logic.{_≢_}
 use mathlib.Core.List.{List, [], _∷_, _++_, map, map-append, append-assoc, append-nil}
-use Prim.Native.Nat.{ℕ, zero, suc, _+_, _-_, _≤_, _<_}
+use Prim.Native.Nat.{ℕ, zero, suc, _+_, _-_, _≤_}
 use native.Mathlib.Omega.{arith}
 use lib.IntN.{ℤ, pos, negsuc}
-use lib.ListN.{length, set, replicate, length-append, length-map, length-replicate, length-set, replicate-append-replicate}
+use lib.ListN.{length, set, replicate, length-append, length-map, length-replicate, replicate-append-replicate}
 use lib.Seq.{set-at}
 use Rattle.digits.specs.Byte.{byteOf}
 use Rattle.digits.specs.Integer.{signedBy}

@@ -7,10 +7,10 @@ use Prim.Native.Nat.{ℕ, zero, suc, _+_, _*_, _-_, _/_, _%_, _^_, _≤_, _<_}
 use native.Mathlib.Nat.{mul-le-mul-left, mul-div-cancel-left, lt-of-not-le, le-div-iff-mul-le, div-lt-iff-lt-mul, pow-succ'}
 use native.Mathlib.Omega.{arith}
 use lib.Count.{trailingZeros}
-use lib.IntN.{ℤ, pos, negℤ}
+use lib.IntN.{pos, negℤ}
 use lib.Pow.{pow-pos, pow-add, pow-mono}
 use borrow.Author.Tests.{eq-eqb, ne-eqb, le-ltb}
-use Rattle.digits.specs.Byte.{byteOf, turned}
+use Rattle.digits.specs.Byte.{byteOf}
 use Rattle.digits.specs.Byte.Signed.{byte-negated}
 use Rattle.digits.specs.Integer.{signedBy}
 use Rattle.digits.specs.Integer.Parts.{integers, negation}

@@ -23,7 +23,6 @@ use Rattle.digits.specs.Two.{Column, P, Q, two, paired}
 use Rattle.forms.specs.Joint.{joint}
 use Rattle.forms.specs.Joint.Value.{joint-small}
 use Rattle.forms.specs.Row as Row
-use Rattle.forms.specs.Row.Value.{row-digits}
 use Rattle.recode.specs.Call.{roomy, placesWritten, weightWritten, wroteRow, wroteColumns, filled, left, answerWith, bufferWith, jointAnswer, jointBuffer}
 use Rattle.recode.specs.declared.answer.Recoded.{Recoded}
 use Rattle.sheet.specs.declared.Plan.{Plan}
@@ -32,7 +31,7 @@ use Rattle.sheet.specs.Digits.{weight}
 use Rattle.sheet.specs.Plan.{point}
 use Rattle.sheet.specs.Questions.Planned.{window-of}
 use Rattle.written.specs.Makes.{Makes}
-use Rattle.written.specs.Valid.{Valid, window-positive}
+use Rattle.written.specs.Valid.{Valid}
 use Rattle.written.specs.Written.{digits, sheetOf}
 use Rattle.written.specs.Written.Columns.{paired-length, paired-weight}
 use Rattle.writer.specs.declared.rows.Rows.{Rows}

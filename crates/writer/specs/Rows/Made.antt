@@ -1,9 +1,9 @@
 -- Rows of either kind keep what is promised of a row, so two of them make their scalars; and both kinds cost the same. From the promises of
 -- forms and of down.
-use mathlib.Core.Path.{_≡_, refl, sym, ap, _∙_}
+use mathlib.Core.Path.{_≡_, refl}
 use mathlib.Core.Bool.{true, _&&_}
 use mathlib.Core.List.{List}
-use Prim.Native.Nat.{ℕ, _+_, _-_, _≤_}
+use Prim.Native.Nat.{ℕ}
 use native.Mathlib.Omega.{arith}
 use lib.IntN.{ℤ}
 use Rattle.digits.specs.Row.{isWindow, weight}
@@ -16,11 +16,9 @@ use Rattle.down.specs.Promise.{down-weight}
 use Rattle.recode.specs.Call.{RowBy}
 use Rattle.recode.specs.Call.Standing.{row-kept}
 use Rattle.sheet.specs.declared.Plan.the-variants.{I}
-use Rattle.sheet.specs.Plan.{tableAdditions}
 use Rattle.written.specs.Makes.{Makes}
 use Rattle.written.specs.Promise.{sheet-cost}
-use Rattle.written.specs.Valid.{Valid}
-use Rattle.written.specs.Written.{digits, additionsOf, writtenAdditions}
+use Rattle.written.specs.Written.{digits, additionsOf}
 use Rattle.written.specs.Written.Columns.{rows-make, paired-weight}
 use Rattle.writer.specs.declared.rows.Rows.{Rows}
 use Rattle.writer.specs.declared.rows.Rows.the-variants.{Up, Down}

@@ -1,7 +1,7 @@
 -- `write_digits` meets its contract. The loop's invariant: the digits of the places left, followed by what stands in the buffer, are those
 -- of all places (Turns), and the bits held are those from the highest place left down (Reading). The measure is that place.
 use mathlib.Core.Path.{_≡_, refl, sym, ap, _∙_}
-use mathlib.Core.Bool.{Bool, true, false, cond}
+use mathlib.Core.Bool.{true, false}
 use Prim.Native.Nat.{ℕ, suc, _+_, _-_, _*_, _/_, _^_, _≤_, _<_}
 use native.Mathlib.Omega.{arith}
 use borrow.Author.Needs.{needs}
@@ -16,17 +16,12 @@ use Rattle.down.specs.Body.Window.{sizeOf, WindowOf}
 use Rattle.down.specs.Down.{beyond}
 use Rattle.down.proofs.AheadBits.{Ahead, read-ahead}
 use Rattle.down.proofs.BitLength.{some-bits}
-use Rattle.down.proofs.DownLoop.{DigitTurn, width-few, skipped, reached, digit-turn}
+use Rattle.down.proofs.DownLoop.{DigitTurn, width-few, chosen, skipped, reached, digit-turn}
 use Rattle.down.proofs.Reading.{Reading, start-reading, refilled, ahead-read, less-read}
 use Rattle.down.proofs.Turns.{Turn, start, light, out-length, finish}
 use Rattle.down.proofs.WindowSize.{size-some, size-most, whole-within, window-made}
 use Rattle.down.proofs.rows.write_digits.Statement.{statement}
 use Rattle.down.proofs.rows.write_digits.Tie as tie
-
--- one place fewer than a width, or none
-chosen : (c : Bool) (W : ℕ) → 2 ≤ W → (1 ≤ cond c (W - 1) W) × (cond c (W - 1) W ≤ W)
-chosen true W h = (omega arith, omega arith)
-chosen false W h = (omega arith, omega arith)
 
 abbrev Inv-loop : tie.InvT-loop
 Inv-loop s sign m width out₀ whole₀ place₀ bits₀ long₀ weight₀ out place bits long weight =

@@ -1,10 +1,10 @@
 -- `write_row` meets its contract: the places lent hold the whole row, and the sign is that of the scalar.
 use mathlib.Core.Path.{_≡_, sym, ap, _∙_}
 use mathlib.Core.List.{List, map}
-use Prim.Native.Nat.{ℕ, suc, _+_, _*_, _≤_}
+use Prim.Native.Nat.{ℕ, _+_, _*_, _≤_}
 use native.Mathlib.Omega.{arith}
-use lib.IntN.{ℤ, pos}
-use lib.ListN.{length, length-map}
+use lib.IntN.{ℤ}
+use lib.ListN.{length}
 use Rattle.digits.specs.Integer.{signedBy}
 use Rattle.digits.specs.Scalar.{Bytes, scalar, signedScalar, bitLength}
 use Rattle.digits.specs.Scalar.Length.{length-least}
