@@ -2,10 +2,10 @@
 -- writes. The definitions are those of Down and Call, of forms and of digits; the proofs are in the files that the answers name.
 use mathlib.Core.Path.{_≡_}
 use mathlib.Core.Logic.{_≢_}
-use mathlib.Core.List.{List, [], map}
-use Prim.Native.Nat.{ℕ, suc, _+_, _≤_}
+use mathlib.Core.List.{List, [], _++_, map}
+use Prim.Native.Nat.{ℕ, suc, _+_, _-_, _≤_}
 use lib.IntN.{ℤ, pos, negℤ, natAbs}
-use lib.ListN.{length, getD}
+use lib.ListN.{length, getD, replicate}
 use Rattle.digits.specs.Buffer.{rowBelow}
 use Rattle.digits.specs.declared.limits.Limits.{Limits}
 use Rattle.digits.specs.Row.{value, weight, Over}
@@ -14,8 +14,9 @@ use Rattle.forms.specs.Row.{row}
 use Rattle.recode.specs.declared.answer.Recoded.the-variants.{Written}
 use Rattle.down.specs.Call.{downAnswer, downBuffer, DownOf}
 use Rattle.down.specs.Call.Row as Call
-use Rattle.down.specs.Down.{places, DownRule, down}
+use Rattle.down.specs.Down.{worth, settled, window, places, DownRule, down}
 use Rattle.down.specs.Down.Row as Row
+use Rattle.down.specs.Down.Settled as Settled
 use Rattle.down.specs.Down.Unfold as Unfold
 
 -- the digits of the n lowest places meet the printed steps, and nothing else does
@@ -24,6 +25,10 @@ places-meet = Unfold.places-meet
 
 pub places-only : (m u n : ℕ) (ds : List ℤ) → 1 ≤ m → DownRule m u n ds → ds ≡ places m u n
 places-only = Unfold.places-only
+
+-- no window sets a digit below place 0
+pub none-below : (u i v : ℕ) → settled (suc v) (worth u i (suc v)) ≡ replicate (suc v - suc i) (pos 0) ++ window u i (suc v)
+none-below = Settled.none-below
 
 -- the row's digits are the window's
 pub down-digits : (m : ℕ) (c : ℤ) → 1 ≤ m → Over m (down m c)

@@ -1,7 +1,7 @@
 -- The digits of a window: their number, their value, at most one that is not 0, and all of them the window's. From what a window is worth.
 use mathlib.Core.Path.{_≡_, refl, sym, ap, ap₂, subst, _∙_}
 use mathlib.Core.Bool.{Bool, true, false, not, cond}
-use mathlib.Core.List.{List, [], _∷_}
+use mathlib.Core.List.{List, [], _∷_, _++_}
 use Prim.Native.Nat.{ℕ, zero, suc, _+_, _*_, _-_, _/_, _%_, _^_, _≤_, _<_}
 use native.Mathlib.Nat.{mul-add, mul-comm, mul-assoc, mul-zero, mul-one, mul-left-comm, mul-le-mul-left, suc-add, one-mul, pow-succ', div-add-mod, mod-lt}
 use native.Mathlib.Numerals.{sub-one}
@@ -94,6 +94,16 @@ dropped (suc s) n d e h =
     ap (λ (w : ℕ). drop (suc s) (settled w d)) (suc-add s n) ∙ ap (drop (suc s)) (settled-even (s + n) d even)
     ∙ dropped s n (half d) e (omega (arith, power-step s (down e), power-step s (up e), half-even d even))
 
+-- and these are zeros
+fallen : (s n : ℕ) (d e : ℤ) → up d + 2 ^ s * down e ≡ down d + 2 ^ s * up e → settled (s + n) d ≡ replicate s (pos 0) ++ drop s (settled (s + n) d)
+fallen zero n d e h = refl
+fallen (suc s) n d e h =
+    let even : natAbs d % 2 ≡ 0 = omega (arith, power-step s (down e), power-step s (up e), size d) in
+    let front : settled (suc s + n) d ≡ pos 0 ∷ settled (s + n) (half d) = ap (λ (w : ℕ). settled w d) (suc-add s n) ∙ settled-even (s + n) d even in
+    front
+    ∙ ap (λ (ds : List ℤ). pos 0 ∷ ds) (fallen s n (half d) e (omega (arith, power-step s (down e), power-step s (up e), half-even d even)))
+    ∙ ap (λ (ds : List ℤ). replicate (suc s) (pos 0) ++ drop (suc s) ds) (sym front)
+
 drop-weight : (s : ℕ) (ds : List ℤ) → weight (drop s ds) ≤ weight ds
 unfolding weight
 drop-weight zero ds = omega arith
@@ -175,49 +185,65 @@ inside u i w h = ap (λ (s : ℕ). drop s (settled w (worth u i w))) none
     none : w - suc i ≡ 0
     none = omega arith
 
--- one that does not has those of what is left of u
-outside : (u i v : ℕ) → suc i ≤ suc v → window u i (suc v) ≡ settled (suc i) (low u (suc i))
-unfolding window low
-outside u i v h =
-    ap (λ (y : ℕ). drop s (settled y d)) (omega arith)
-    ∙ dropped s n d e
-    (omega (
-      arith,
-      worth-near u i v,
-      near-down u n w,
-      ap (λ (y : ℕ). 2 ^ s * y) (ap (near u) nought ∙ near-zero u),
-      power,
-      ap (λ (y : ℕ). 2 ^ s * y) parts,
-      mul-add (2 ^ s) (up e) x,
-      mul-add (2 ^ s) u (down e),
-    ))
+-- one that does not is worth 2^s times what is left of u
+module _ (u i v : ℕ) (h : suc i ≤ suc v) where
+  abbrev n : ℕ
+  n = suc i
+
+  abbrev w : ℕ
+  w = suc v
+
+  abbrev s : ℕ
+  s = w - n
+
+  abbrev x : ℕ
+  x = 2 ^ n * near u n
+
+  abbrev d : ℤ
+  d = worth u i w
+
+  abbrev e : ℤ
+  e = pos u -ℤ pos x
+
+  nought : n - w ≡ 0
+  nought = omega arith
+
+  power : 2 ^ w * near u n ≡ 2 ^ s * x
+  power = ap (λ (y : ℕ). y * near u n) (power-split n w h ∙ mul-comm (2 ^ n) (2 ^ s)) ∙ mul-assoc (2 ^ s) (2 ^ n) (near u n)
+
+  multiple : up d + 2 ^ s * down e ≡ down d + 2 ^ s * up e
+  multiple =
+      let parts : up e + x ≡ u + down e = omega (arith, difference (pos u) (pos x)) in
+      omega (
+        arith,
+        worth-near u i v,
+        near-down u n w,
+        ap (λ (y : ℕ). 2 ^ s * y) (ap (near u) nought ∙ near-zero u),
+        power,
+        ap (λ (y : ℕ). 2 ^ s * y) parts,
+        mul-add (2 ^ s) (up e) x,
+        mul-add (2 ^ s) u (down e),
+      )
+
+  -- so it has the digits of that
+  outside : window u i w ≡ settled n (low u n)
+  unfolding window low
+  outside = ap (λ (y : ℕ). drop s (settled y d)) (omega arith) ∙ dropped s n d e multiple
+
+  -- and below place 0 none is set
+  past : settled w d ≡ replicate s (pos 0) ++ window u i w
+  unfolding window
+  past = subst (λ (y : ℕ). settled y d ≡ replicate s (pos 0) ++ drop s (settled y d)) {x = s + n} {y = w} (omega arith) (fallen s n d e multiple)
+
+-- below place 0 no digit is set
+pub none-below : (u i v : ℕ) → settled (suc v) (worth u i (suc v)) ≡ replicate (suc v - suc i) (pos 0) ++ window u i (suc v)
+none-below u i v = go (leb (suc v) (suc i)) (leb→le (suc v) (suc i)) (nleb→lt (suc v) (suc i))
   where
-    n : ℕ
-    n = suc i
-
-    w : ℕ
-    w = suc v
-
-    s : ℕ
-    s = w - n
-
-    x : ℕ
-    x = 2 ^ n * near u n
-
-    d : ℤ
-    d = worth u i w
-
-    e : ℤ
-    e = pos u -ℤ pos x
-
-    parts : up e + x ≡ u + down e
-    parts = omega (arith, difference (pos u) (pos x))
-
-    nought : n - w ≡ 0
-    nought = omega arith
-
-    power : 2 ^ w * near u n ≡ 2 ^ s * x
-    power = ap (λ (y : ℕ). y * near u n) (power-split n w h ∙ mul-comm (2 ^ n) (2 ^ s)) ∙ mul-assoc (2 ^ s) (2 ^ n) (near u n)
+    go : (t : Bool) → (T t → suc v ≤ suc i) → (T (not t) → suc i < suc v) → settled (suc v) (worth u i (suc v)) ≡ replicate (suc v - suc i) (pos 0) ++ window u i (suc v)
+    go true p q =
+        let none : suc v - suc i ≡ 0 = omega (arith, p tt) in
+        sym (inside u i (suc v) (p tt)) ∙ ap (λ (k : ℕ). replicate k (pos 0) ++ window u i (suc v)) (sym none)
+    go false p q = past u i v (omega (arith, q tt))
 
 -- their value takes u, rounded at the window's top, to u, rounded below it
 pub window-value : (u i v : ℕ) → up (value (window u i (suc v))) + 2 ^ length (window u i (suc v)) * near u (suc i) ≡ down (value (window u i (suc v))) + near u (suc i - suc v)
