@@ -185,27 +185,37 @@ static uint32_t four_bytes(const uint8_t *bytes, size_t n, size_t at)
 
 /*
  * Writes the row from the top down of a scalar's bytes into places that hold 0. `at` is the place that is reached, and `bit` the bit there;
- * x has the bits below it, complemented if it is 1, so that the window begins at the first 1. Each caller settles whether the window is
- * full, m = 2^(W-1) - 1, where no digit is beyond m.
+ * the uppermost `held` bits of x are those below it. Complemented if the bit is 1, they begin with the digits that are 0, and the window begins
+ * at the first 1. Each caller settles whether the window is full, m = 2^(W-1) - 1, where no digit is beyond m.
  */
 static inline __attribute__((always_inline)) struct recoded recode_from_top(const uint8_t *bytes, size_t n, unsigned negative, unsigned m,
                                                                             int full, uint8_t *digits)
 {
     struct recoded row = {0, 0};
-    unsigned w = width_of(m), bit = 0;
+    unsigned w = width_of(m), bit = 0, held = 0;
     int at = 8 * (int)n;
+    size_t read = 0;
+    uint64_t x = 0;
 
     while (at > 0 || bit) {
-        unsigned read = 8 * (unsigned)n - (unsigned)at, minus = bit ^ negative, width = w, zeros, top, size, twos;
-        uint32_t x = (four_bytes(bytes, n, read / 8) ^ -bit) << read % 8;
+        unsigned minus = bit ^ negative, width = w, zeros, top, size, twos;
+        uint64_t ends;
 
-        /* Where every bit is the same, the digits are 0. Of the 25 bits that are there at least the last six stay for the next window. */
-        if (x >> 13 == 0) {
-            at -= 19;
+        if (held < 32) {
+            x |= (uint64_t)four_bytes(bytes, n, read) << (32 - held);
+            read += 4;
+            held += 32;
+        }
+        ends = x ^ -(uint64_t)bit;
+        /* Where every bit is the same, the digits are 0; six bits stay for the next window. */
+        if (ends >> 38 == 0) {
+            at -= 26;
+            x <<= 26;
+            held -= 26;
             continue;
         }
-        zeros = (unsigned)__builtin_clz(x);
-        top = x << zeros >> (32 - w);
+        zeros = (unsigned)__builtin_clzll(ends);
+        top = (unsigned)(ends << zeros >> (64 - w));
         size = (top + 1) >> 1;
         if (!full) {
             unsigned beyond = size & (m - size) >> 31;
@@ -216,6 +226,8 @@ static inline __attribute__((always_inline)) struct recoded recode_from_top(cons
         }
         bit ^= top & 1;
         at -= (int)(zeros + width);
+        x <<= zeros + width;
+        held -= zeros + width;
         twos = (unsigned)__builtin_ctz(size);
         digits[at + 1 + (int)twos] = (uint8_t)((size >> twos ^ -minus) + minus);
         if (row.weight++ == 0)
