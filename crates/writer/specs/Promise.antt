@@ -6,13 +6,17 @@ use Prim.Native.Nat.{ℕ}
 use lib.ListN.{length, take}
 use Rattle.digits.specs.declared.limits.Limits.{Limits}
 use Rattle.digits.specs.Scalar.{Bytes, signedScalar}
+use Rattle.digits.specs.Two.{paired}
+use Rattle.down.specs.Down.{down}
+use Rattle.sheet.specs.Digits.{columns}
+use Rattle.sheet.specs.Spelling.{lines}
 use Rattle.sheet.specs.declared.Plan.the-variants.{J, I}
 use Rattle.written.specs.Enough.{Enough}
 use Rattle.writer.specs.declared.answer.Sheet.{Sheet}
 use Rattle.writer.specs.declared.answer.Sheet.the-variants.{Written}
 use Rattle.writer.specs.Call.{additions, Promised, SheetPromised, jAnswer, jBuffer, iAnswer, iBuffer, iDownAnswer, iDownBuffer}
 use Rattle.writer.specs.Call.Kept as Kept
-use Rattle.writer.specs.Call.Kept.{j-promised, i-promised, i-down-promised}
+use Rattle.writer.specs.Call.Kept.{Columned, j-promised, i-promised, i-down-promised, i-down-stand}
 
 module _ (limits : Limits) (enough : Enough limits) (k : List ℕ) (k-sign : ℕ) (l : List ℕ) (l-sign : ℕ) (buffer : List ℕ) (n a : ℕ) (k-bytes : Bytes k) (l-bytes : Bytes l) where
   -- plan J
@@ -35,6 +39,13 @@ module _ (limits : Limits) (enough : Enough limits) (k : List ℕ) (k-sign : ℕ
   i-down-promise m1 m2 e =
       subst (λ (x : Sheet). SheetPromised limits (I m1 m2) (signedScalar k k-sign) (signedScalar l l-sign) x (iDownBuffer limits k k-sign l l-sign m1 m2 buffer)) e
       (i-down-promised limits enough k k-sign l l-sign buffer k-bytes l-bytes m1 m2)
+
+  -- its digits are those rows
+  pub i-down-digits : (m1 m2 : ℕ) → iDownAnswer limits k k-sign l l-sign m1 m2 (length buffer) ≡ Written n a
+      → columns (lines limits (take n (iDownBuffer limits k k-sign l l-sign m1 m2 buffer))) ≡ paired (down m1 (signedScalar k k-sign)) (down m2 (signedScalar l l-sign))
+  i-down-digits m1 m2 e =
+      subst (λ (x : Sheet). Columned limits (paired (down m1 (signedScalar k k-sign)) (down m2 (signedScalar l l-sign))) x (iDownBuffer limits k k-sign l l-sign m1 m2 buffer)) e
+      (i-down-stand limits enough k k-sign l l-sign buffer k-bytes l-bytes m1 m2)
 
 -- it has as many additions as plan I from 01's rows, for the same windows, whatever was asked
 pub i-down-additions : (limits : Limits) (k : List ℕ) (k-sign : ℕ) (l : List ℕ) (l-sign m1 m2 room : ℕ)

@@ -1,11 +1,11 @@
 -- What the calls for a sheet answer and leave keeps the promise under limits that are enough, whatever was asked, and the answer's number is that of the first question
 -- missed; for plan I from any columns that make the scalars. From the laws of the sheet of columns.
-use mathlib.Core.Path.{_≡_, refl, sym, subst}
+use mathlib.Core.Path.{_≡_, refl, sym, ap, subst, _∙_}
 use mathlib.Core.Bool.{Bool, true, false, _&&_, cond}
 use mathlib.Core.List.{List}
 use Prim.Native.Nat.{ℕ, _^_, _<_}
 use lib.IntN.{ℤ, natAbs}
-use lib.ListN.{length, drop}
+use lib.ListN.{length, take, drop}
 use lib.Seq.{take-append-seam}
 use Rattle.digits.specs.Scalar.Signed.{signed-bounded}
 use Rattle.digits.specs.Scalar.Sized.{both}
@@ -13,22 +13,33 @@ use Rattle.digits.specs.declared.limits.Limits.{Limits}
 use Rattle.digits.specs.Limits.{bits}
 use Rattle.digits.specs.Row.{isWindow}
 use Rattle.digits.specs.Scalar.{Bytes, signedScalar, sized}
-use Rattle.digits.specs.Two.{Column}
+use Rattle.digits.specs.Two.{Column, paired}
+use Rattle.down.specs.Down.{down}
+use Rattle.sheet.specs.Digits.{columns}
+use Rattle.sheet.specs.Spelling.{lines}
 use Rattle.sheet.specs.declared.Plan.{Plan}
 use Rattle.sheet.specs.declared.Plan.the-variants.{J, I}
 use Rattle.written.specs.Enough.{Enough}
 use Rattle.written.specs.Makes.{Makes}
-use Rattle.written.specs.Promise.{sheet-accepted, sheet-slots, sheet-counted}
+use Rattle.written.specs.Promise.{sheet-accepted, sheet-slots, sheet-counted, sheet-lines, sheet-columns}
 use Rattle.written.specs.Valid.{Valid, forJ}
 use Rattle.written.specs.Written.{digits, sheetOf, additionsOf}
 use Rattle.written.specs.Written.Columns.{digits-make}
 use Rattle.writer.specs.declared.answer.Sheet.{Sheet}
-use Rattle.writer.specs.declared.answer.Sheet.the-variants.{BadScalar, BadWindow, NoRoom}
+use Rattle.writer.specs.declared.answer.Sheet.the-variants.{BadScalar, BadWindow, NoRoom, BadLimit, Written}
 use Rattle.writer.specs.Call.{number, additions, roomy, wroteColumns, wrote, left, Promised, SheetPromised, jQuestion, jAnswer, jBuffer, iQuestion, columnsAnswer, columnsBuffer, iAnswer, iBuffer, iDownAnswer, iDownBuffer}
 use Rattle.writer.specs.Rows.{columnsBy}
 use Rattle.writer.specs.Rows.Made.{columns-make, columns-cost}
 use Rattle.writer.specs.declared.rows.Rows.the-variants.{Up, Down}
 use Rattle.writer.specs.Call.Met.{windows-valid}
+
+-- where n bytes were written, they are a sheet with the columns cs
+abbrev pub Columned : Limits → List Column → Sheet → List ℕ → Type 0
+Columned limits cs BadScalar buffer = Unit {0}
+Columned limits cs BadWindow buffer = Unit {0}
+Columned limits cs NoRoom buffer = Unit {0}
+Columned limits cs BadLimit buffer = Unit {0}
+Columned limits cs (Written n a) buffer = columns (lines limits (take n buffer)) ≡ cs
 
 module _ (limits : Limits) (enough : Enough limits) where
   -- both numbers have no more bits than the limits allow
@@ -94,6 +105,25 @@ module _ (limits : Limits) (enough : Enough limits) where
         go true false h v makes = tt
         go false b h v makes = tt
 
+    -- the columns of that sheet are these
+    pub columns-stand : (m1 m2 : ℕ) (cs : List Column) → ((isWindow m1 && isWindow m2) ≡ true → Makes (I m1 m2) x y cs)
+        → Columned limits cs (columnsAnswer limits k k-sign l l-sign m1 m2 cs (length buffer)) (columnsBuffer limits k k-sign l l-sign m1 m2 cs buffer)
+    columns-stand m1 m2 cs makes = go (sized limits k && sized limits l) (isWindow m1 && isWindow m2) (roomy limits (length buffer)) small (windows-valid m1 m2) makes
+      where
+        answer : Bool → Bool → Bool → Sheet
+        answer a b c = cond a (cond b (cond c (wroteColumns (I m1 m2) cs x y) NoRoom) BadWindow) BadScalar
+
+        go : (a b c : Bool) → (a ≡ true → Small x y) → (b ≡ true → Valid (I m1 m2)) → (b ≡ true → Makes (I m1 m2) x y cs)
+            → Columned limits cs (answer a b c) (left (answer a b c) (sheetOf (I m1 m2) cs x y) buffer)
+        go true true true h v makes =
+            let (hk, hl) = h refl in
+            ap (λ (s : List ℕ). columns (lines limits s)) (take-append-seam (sheetOf (I m1 m2) cs x y) (drop (length (sheetOf (I m1 m2) cs x y)) buffer))
+            ∙ ap columns (sheet-lines limits enough (I m1 m2) cs x y (v refl) (makes refl) hk hl)
+            ∙ sheet-columns (I m1 m2) cs x y (makes refl)
+        go true true false h v makes = tt
+        go true false c h v makes = tt
+        go false b c h v makes = tt
+
     -- from the plan's digits
     pub i-promised : (m1 m2 : ℕ) → SheetPromised limits (I m1 m2) x y (iAnswer limits k k-sign l l-sign m1 m2 (length buffer)) (iBuffer limits k k-sign l l-sign m1 m2 buffer)
     unfolding iAnswer iBuffer
@@ -103,6 +133,11 @@ module _ (limits : Limits) (enough : Enough limits) where
     pub i-down-promised : (m1 m2 : ℕ) → SheetPromised limits (I m1 m2) x y (iDownAnswer limits k k-sign l l-sign m1 m2 (length buffer)) (iDownBuffer limits k k-sign l l-sign m1 m2 buffer)
     unfolding iDownAnswer iDownBuffer
     i-down-promised m1 m2 = columns-promised m1 m2 (columnsBy Down m1 m2 x y) (λ e. columns-make m1 m2 x y e Down)
+
+    pub i-down-stand : (m1 m2 : ℕ)
+        → Columned limits (paired (down m1 x) (down m2 y)) (iDownAnswer limits k k-sign l l-sign m1 m2 (length buffer)) (iDownBuffer limits k k-sign l l-sign m1 m2 buffer)
+    unfolding iDownAnswer iDownBuffer
+    i-down-stand m1 m2 = columns-stand m1 m2 (columnsBy Down m1 m2 x y) (λ e. columns-make m1 m2 x y e Down)
 
 module _ (k : List ℕ) (k-sign : ℕ) (l : List ℕ) (l-sign : ℕ) where
   -- the numbers
