@@ -1,10 +1,9 @@
 -- What the bits ahead of place i tell: the bits at and below it that are equal, what a window below those is worth, and how many places
--- it takes. The bits are read as one number, of which x is what is above a multiple of 2^25, or below one where the top bit is set.
+-- it takes. The n bits below the one at place i are read as one number x, each turned where that one is set.
 use mathlib.Core.Path.{_≡_, refl, sym, ap, ap₂, subst, _∙_}
 use mathlib.Core.Logic.{_≢_}
-use mathlib.Core.Bool.{cond}
 use Prim.Native.Nat.{ℕ, zero, suc, _+_, _*_, _-_, _/_, _%_, _^_, _≤_, _<_}
-use native.Mathlib.Nat.{mul-add, mul-assoc, mul-comm, div-div-eq-div-mul, mul-div-mul-left, add-mul-div-left, mul-div-cancel-left, div-add-mod, mod-lt, div-eq-of-lt, div-eq-of-lt-le, lt-of-mul-lt-mul-left, add-comm}
+use native.Mathlib.Nat.{mul-add, mul-assoc, mul-comm, div-div-eq-div-mul, mul-div-mul-left, add-mul-div-left, mul-div-cancel-left, div-add-mod, mod-lt, pow-suc, div-eq-of-lt, div-eq-of-lt-le, lt-of-mul-lt-mul-left, add-comm}
 use native.Mathlib.Omega.{arith}
 use lib.IntN.{pos, natAbs}
 use lib.Pow.{pow-add, pow-pos, pow-mono}
@@ -16,8 +15,8 @@ use Rattle.digits.specs.Integer.Sign.{signed-size}
 use Rattle.digits.specs.Scalar.{bitLength}
 use Rattle.digits.specs.Scalar.Length.{below-length}
 use Rattle.forms.specs.Residue.{width}
-use Rattle.down.specs.Body.Window.{Folded, sizeOf}
-use Rattle.down.specs.Down.{under, worth, beyond, taken}
+use Rattle.down.specs.Body.Window.{sizeOf, widthOf}
+use Rattle.down.specs.Down.{under, worth, taken}
 use Rattle.down.specs.Down.Bits.{shifted, shifted-up, under-is, near, near-shifted, near-down, worth-near}
 use Rattle.down.proofs.WindowSize.{at-least}
 
@@ -31,24 +30,24 @@ abbrev Apart : ℕ → ℕ → ℕ → ℕ → Type 0
 Apart zero n q d = n ≡ q + d
 Apart (suc t) n q d = n + d ≡ q
 
--- the bits read ahead of place i: x, turned where t is 1
-pub record Ahead (u i x t : ℕ) : Type 0 where
-  pub few : x < 2 ^ 24
+-- the n bits read below place i: x, turned where the bit t there is 1
+pub record Ahead (n u i x t : ℕ) : Type 0 where
+  pub few : x < 2 ^ n
   pub bit : t ≤ 1
   pub above : ℕ
-  pub reads : Reads t (shifted u i 24) (2 ^ 25 * above) x
+  pub reads : Reads t (shifted u i n) (2 ^ suc n * above) x
 
-pub read-ahead : (u i a x : ℕ) → a ≡ shifted u i 24 % 2 ^ 25 → Folded a x → Ahead u i x (a / 2 ^ 24)
-read-ahead u i a x e f = go (a / 2 ^ 24) refl
-  where
-    go : (t : ℕ) → a / 2 ^ 24 ≡ t → Ahead u i x t
-    go zero g =
-        let same : x ≡ a = f .0 (omega arith) in
-        record { few = omega arith; bit = omega arith; above = shifted u i 24 / 2 ^ 25; reads = omega arith }
-    go (suc zero) g =
-        let same : a + x + 1 ≡ 2 ^ 25 = f .1 (omega arith) in
-        record { few = omega arith; bit = omega arith; above = shifted u i 24 / 2 ^ 25 + 1; reads = omega arith }
-    go (suc (suc t)) g = absurd (omega arith)
+-- y is the number of those bits and of the one at place i
+pub read-plus : (n u i x y : ℕ) → y ≡ shifted u i n % 2 ^ suc n → y < 2 ^ n → x ≡ y → Ahead n u i x 0
+read-plus n u i x y e l f =
+    let S : ℕ = shifted u i n in
+    record { few = omega arith; bit = omega arith; above = S / 2 ^ suc n; reads = omega (arith, div-add-mod S (2 ^ suc n)) }
+
+pub read-minus : (n u i x y : ℕ) → y ≡ shifted u i n % 2 ^ suc n → 2 ^ n ≤ y → x + y + 1 ≡ 2 ^ suc n → Ahead n u i x 1
+read-minus n u i x y e l f =
+    let S : ℕ = shifted u i n in
+    let q : ℕ = S / 2 ^ suc n in
+    record { few = omega (arith, pow-suc 2 n); bit = omega arith; above = q + 1; reads = omega (arith, div-add-mod S (2 ^ suc n), mul-add (2 ^ suc n) q 1) }
 
 -- the lowest j bits are left away
 shifted-less : (u i j k : ℕ) → shifted u i (j + k) / 2 ^ j ≡ shifted u i k
@@ -87,15 +86,15 @@ parts-less (suc t) S Y x e r = omega (arith, low, high)
         ))
 
 -- the first bits alone
-first : (u i x t h k : ℕ) → k ≤ 24 → Reads t (shifted u i 24) (2 ^ 25 * h) x → Reads t (shifted u i k) (2 ^ suc k * h) (x / 2 ^ (24 - k))
-first u i x t h k l r =
-    let e : ℕ = 24 - k in
-    let whole : e + k ≡ 24 = omega arith in
-    let power : 2 ^ 25 * h ≡ 2 ^ e * (2 ^ suc k * h) =
-    ap (λ (n : ℕ). n * h) (ap (λ (n : ℕ). 2 ^ n) {x = 25} {y = e + suc k} (omega arith) ∙ pow-add 2 e (suc k)) ∙ mul-assoc (2 ^ e) (2 ^ suc k) h
+first : (n u i x t h k : ℕ) → k ≤ n → Reads t (shifted u i n) (2 ^ suc n * h) x → Reads t (shifted u i k) (2 ^ suc k * h) (x / 2 ^ (n - k))
+first n u i x t h k l r =
+    let e : ℕ = n - k in
+    let whole : e + k ≡ n = omega arith in
+    let power : 2 ^ suc n * h ≡ 2 ^ e * (2 ^ suc k * h) =
+    ap (λ (p : ℕ). p * h) (ap (λ (j : ℕ). 2 ^ j) {x = suc n} {y = e + suc k} (omega arith) ∙ pow-add 2 e (suc k)) ∙ mul-assoc (2 ^ e) (2 ^ suc k) h
     in
-    let less : shifted u i 24 / 2 ^ e ≡ shifted u i k = ap (λ (n : ℕ). shifted u i n / 2 ^ e) (sym whole) ∙ shifted-less u i e k in
-    subst (λ (n : ℕ). Reads t n (2 ^ suc k * h) (x / 2 ^ e)) less (parts-less t (shifted u i 24) (2 ^ suc k * h) x e (subst (λ (n : ℕ). Reads t (shifted u i 24) n x) power r))
+    let less : shifted u i n / 2 ^ e ≡ shifted u i k = ap (λ (j : ℕ). shifted u i j / 2 ^ e) (sym whole) ∙ shifted-less u i e k in
+    subst (λ (y : ℕ). Reads t y (2 ^ suc k * h) (x / 2 ^ e)) less (parts-less t (shifted u i n) (2 ^ suc k * h) x e (subst (λ (y : ℕ). Reads t (shifted u i n) y x) power r))
 
 -- below place 0 there is no bit
 under-below : (u i k : ℕ) → i < k → under u i k ≡ 0
@@ -130,36 +129,36 @@ zeros-enough e z o A B odd d =
         let alone : 2 * (2 ^ f * A) ≡ 2 * (2 ^ f * B) + o = sym (mul-div-cancel-left (2 * (2 ^ f * A)) (pow-pos z)) ∙ ap (λ (y : ℕ). y / 2 ^ z) sum ∙ mul-div-cancel-left (2 * (2 ^ f * B) + o) (pow-pos z) in
         omega arith
 
-module _ {u i x t : ℕ} (a : Ahead u i x t) where
+module _ {n u i x t : ℕ} (a : Ahead n u i x t) where
   abbrev h : ℕ
   h = a .above
 
   -- bit k, by the bits of x
-  bit-at : (k : ℕ) → k ≤ 24 → under u i k ≡ (t + x / 2 ^ (24 - k)) % 2
-  bit-at k l = under-is u i k ∙ go t (a .bit) (first u i x t h k l (a .reads))
+  bit-at : (k : ℕ) → k ≤ n → under u i k ≡ (t + x / 2 ^ (n - k)) % 2
+  bit-at k l = under-is u i k ∙ go t (a .bit) (first n u i x t h k l (a .reads))
     where
-      go : (t : ℕ) → t ≤ 1 → Reads t (shifted u i k) (2 ^ suc k * h) (x / 2 ^ (24 - k)) → shifted u i k % 2 ≡ (t + x / 2 ^ (24 - k)) % 2
+      go : (t : ℕ) → t ≤ 1 → Reads t (shifted u i k) (2 ^ suc k * h) (x / 2 ^ (n - k)) → shifted u i k % 2 ≡ (t + x / 2 ^ (n - k)) % 2
       go zero b r = omega (arith, r, power-step k h)
       go (suc zero) b r = omega (arith, r, power-step k h)
       go (suc (suc t)) b r = absurd (omega arith)
 
   module _ (b : ℕ) (is : b ≡ bitLength x) where
     -- the bits above those of x are equal
-    none-above : (k : ℕ) → k + b ≤ 24 → x / 2 ^ (24 - k) ≡ 0
-    none-above k l = div-eq-of-lt (omega (arith, is, ap (λ (n : ℕ). 2 ^ n) is, below-length x, pow-mono {i = b} {j = 24 - k} (omega arith)))
+    none-above : (k : ℕ) → k + b ≤ n → x / 2 ^ (n - k) ≡ 0
+    none-above k l = div-eq-of-lt (omega (arith, is, ap (λ (e : ℕ). 2 ^ e) is, below-length x, pow-mono {i = b} {j = n - k} (omega arith)))
 
-    pub equal : (k : ℕ) → k + b ≤ 24 → under u i k ≡ t
+    pub equal : (k : ℕ) → k + b ≤ n → under u i k ≡ t
     equal k l = bit-at k (omega arith) ∙ omega (arith, none-above k l, a .bit)
 
     -- so many of them
-    module _ (s : ℕ) (all : s + b ≡ 24) (some : 1 ≤ b) where
+    module _ (s : ℕ) (all : s + b ≡ n) (some : 1 ≤ b) where
       -- and the next one is not
-      top-one : x / 2 ^ (24 - suc s) ≡ 1
+      top-one : x / 2 ^ (n - suc s) ≡ 1
       top-one =
-          let k : ℕ = 24 - suc s in
-          let n : bitLength x ≡ suc k = omega (arith, is) in
+          let k : ℕ = n - suc s in
+          let whole : bitLength x ≡ suc k = omega (arith, is) in
           div-eq-of-lt-le (2 ^ k) (omega (arith, at-least x b k is (omega arith)))
-          (omega (arith, below-length x, ap (λ (y : ℕ). 2 ^ y) n, power-step k 1))
+          (omega (arith, below-length x, ap (λ (y : ℕ). 2 ^ y) whole, power-step k 1))
 
       turned : under u i (suc s) ≢ t
       turned e = omega (arith, bit-at (suc s) (omega arith), top-one, a .bit)
@@ -187,31 +186,31 @@ module _ {u i x t : ℕ} (a : Ahead u i x t) where
 
         upper-near : near u (suc j) ≡ P
         upper-near =
-            ap (λ (n : ℕ). near n (suc j)) (sym (omega arith)) ∙ near-shifted u j 0
-            ∙ ap (λ (n : ℕ). (n + 1) / 2) (shifted-place u i s 0 inside ∙ ap (shifted u i) (omega arith))
-            ∙ go t (a .bit) (first u i x t h s (omega arith) (a .reads))
+            ap (λ (y : ℕ). near y (suc j)) (sym (omega arith)) ∙ near-shifted u j 0
+            ∙ ap (λ (y : ℕ). (y + 1) / 2) (shifted-place u i s 0 inside ∙ ap (shifted u i) (omega arith))
+            ∙ go t (a .bit) (first n u i x t h s (omega arith) (a .reads))
           where
-            go : (t : ℕ) → t ≤ 1 → Reads t (shifted u i s) (2 ^ suc s * h) (x / 2 ^ (24 - s)) → (shifted u i s + 1) / 2 ≡ P
+            go : (t : ℕ) → t ≤ 1 → Reads t (shifted u i s) (2 ^ suc s * h) (x / 2 ^ (n - s)) → (shifted u i s + 1) / 2 ≡ P
             go zero l r = omega (arith, r, none-above s (omega arith), power-step s h)
             go (suc t) l r = omega (arith, r, none-above s (omega arith), power-step s h)
 
         lower-power : 2 ^ (s + w) * h ≡ 2 ^ w * P
-        lower-power = ap (λ (n : ℕ). n * h) (pow-add 2 s w ∙ mul-comm (2 ^ s) (2 ^ w)) ∙ mul-assoc (2 ^ w) (2 ^ s) h
+        lower-power = ap (λ (y : ℕ). y * h) (pow-add 2 s w ∙ mul-comm (2 ^ s) (2 ^ w)) ∙ mul-assoc (2 ^ w) (2 ^ s) h
 
         -- the lower end of the window, rounded
         abbrev lower : ℕ
         lower = near (2 ^ w * u) (suc j)
 
         lower-near : Apart t lower (2 ^ w * P) size
-        lower-near = go t (first u i x t h (s + w) (omega arith) (a .reads))
+        lower-near = go t (first n u i x t h (s + w) (omega arith) (a .reads))
           where
             here : lower ≡ (shifted u i (s + w) + 1) / 2
-            here = near-shifted u j w ∙ ap (λ (n : ℕ). (n + 1) / 2) (shifted-place u i s w inside)
+            here = near-shifted u j w ∙ ap (λ (y : ℕ). (y + 1) / 2) (shifted-place u i s w inside)
 
-            bits : x / 2 ^ (24 - (s + w)) ≡ x / 2 ^ (b - w)
-            bits = ap (λ (n : ℕ). x / 2 ^ n) (omega arith)
+            bits : x / 2 ^ (n - (s + w)) ≡ x / 2 ^ (b - w)
+            bits = ap (λ (e : ℕ). x / 2 ^ e) (omega arith)
 
-            go : (t : ℕ) → Reads t (shifted u i (s + w)) (2 ^ suc (s + w) * h) (x / 2 ^ (24 - (s + w))) → Apart t lower (2 ^ w * P) size
+            go : (t : ℕ) → Reads t (shifted u i (s + w)) (2 ^ suc (s + w) * h) (x / 2 ^ (n - (s + w))) → Apart t lower (2 ^ w * P) size
             go zero r = omega (arith, r, here, bits, power-step (s + w) h, lower-power)
             go (suc t) r = omega (arith, r, here, bits, power-step (s + w) h, lower-power)
 
@@ -220,7 +219,7 @@ module _ {u i x t : ℕ} (a : Ahead u i x t) where
         worth-is = go t lower-near
           where
             top : 2 ^ w * near u (suc j) ≡ 2 ^ w * P
-            top = ap (λ (n : ℕ). 2 ^ w * n) upper-near
+            top = ap (λ (y : ℕ). 2 ^ w * y) upper-near
 
             go : (t : ℕ) → Apart t lower (2 ^ w * P) size → worth u j w ≡ signedBy t (pos size)
             go zero r = omega (integers, r, worth-near u j v, top, one-side (worth u j w))
@@ -243,14 +242,14 @@ module _ {u i x t : ℕ} (a : Ahead u i x t) where
             first-part = near-down u (suc j) w
 
             second-part : 2 ^ w * P ≡ 2 ^ below * B
-            second-part = ap (λ (n : ℕ). n * P) (power-split below w (omega arith)) ∙ mul-assoc (2 ^ below) (2 ^ (w - below)) P
+            second-part = ap (λ (y : ℕ). y * P) (power-split below w (omega arith)) ∙ mul-assoc (2 ^ below) (2 ^ (w - below)) P
 
             go : (t : ℕ) → Apart t lower (2 ^ w * P) size → w - suc j ≤ z
             go zero r = zeros-enough below z o A B odd (omega (arith, r, first-part, second-part, e))
             go (suc t) r = zeros-enough below z o B A odd (omega (arith, r, first-part, second-part, e))
 
       -- the window takes as many places as the test of line 9 says
-      pub taken-is : (m W : ℕ) → W ≡ width m → 1 ≤ W → W ≤ b → taken m u j ≡ cond (beyond m (pos (sizeOf x b W))) (W - 1) W
+      pub taken-is : (m W : ℕ) → W ≡ width m → 1 ≤ W → W ≤ b → taken m u j ≡ widthOf m x b
       unfolding taken
       taken-is m zero e l h = absurd (omega arith)
       taken-is m (suc v) e l h =

@@ -1,51 +1,84 @@
--- The bits that were read and not yet taken: those of the scalar from a place down. Four bytes more go below them, and the highest are taken off.
+-- The bits that were read and not yet taken: those of the scalar from a place down, turned for a minus, and zeros below them. More bytes go
+-- below them, and the highest are taken off.
 use mathlib.Core.Path.{_≡_, refl, sym, ap, ap₂, subst, _∙_}
+use mathlib.Core.Logic.{_≢_}
 use mathlib.Core.Bool.{Bool, true, false, not}
 use mathlib.Core.List.{List, [], _∷_, _++_}
 use Prim.Native.Nat.{ℕ, zero, suc, _+_, _*_, _-_, _/_, _%_, _^_, _≤_, _<_}
-use native.Mathlib.Nat.{mul-comm, mul-assoc, mul-div-mul-left, div-div-eq-div-mul, add-mul-mod-self-left, mod-lt, mod-mod, mod-eq-of-lt, div-eq-of-lt, div-add-mod'}
+use native.Mathlib.Nat.{mul-comm, mul-assoc, add-mul, mul-div-mul-left, add-zero, mul-le-mul-right, mul-lt-mul-of-pos-right, div-div-eq-div-mul, add-mul-mod-self-left, mod-lt, mod-eq-of-lt, div-eq-of-lt, div-eq-of-lt-le, div-add-mod', pow-succ'}
 use native.Mathlib.Omega.{arith}
 use lib.Arith.{digits-div, digits-mod, mod-mul}
 use lib.Dec.{T, leb, leb→le, nleb→lt}
 use lib.ListN.{length, getD, take, replicate, length-append}
-use lib.Pow.{pow-add, pow-pos}
+use lib.Pow.{pow-add, pow-pos, shl-shr, shr-lt}
 use Rattle.digits.specs.Buffer.Zeros.{padded-at}
 use Rattle.digits.specs.Scalar.{Bytes, little, scalar}
 use Rattle.digits.specs.Scalar.Value.{scalar-below, bytes-power}
 use Rattle.down.specs.declared.bits.Bits.{Bits}
-use Rattle.down.specs.Body.Ahead.{four, Filled}
+use Rattle.down.specs.Body.Ahead.{four, eight, turned, room, Filled, Folded}
 use Rattle.down.specs.Down.Bits.{shifted, shifted-up}
+use Rattle.down.proofs.AheadBits.{Ahead, read-plus, read-minus}
 use Rattle.down.proofs.FourBytes.{scalar-append, first-bytes, four-more}
+use Rattle.down.proofs.WindowSize.{Signs, minus-sign}
 
--- ── numbers that agree in their low bits ────────────────────────────────────────────────────
-
-abbrev Agree : ℕ → ℕ → ℕ → Type 0
-Agree h x y = x % 2 ^ h ≡ y % 2 ^ h
+-- ── low bits ────────────────────────────────────────────────────────────────────────────────
 
 split : (x a b : ℕ) → x % 2 ^ (a + b) ≡ (x / 2 ^ a % 2 ^ b) * 2 ^ a + x % 2 ^ a
 split x a b = ap (λ (n : ℕ). x % n) (pow-add 2 a b ∙ mul-comm (2 ^ a) (2 ^ b)) ∙ mod-mul x (pow-pos b) (pow-pos a)
 
--- in fewer
-fewer : (x y a b : ℕ) → Agree (a + b) x y → Agree a x y
-fewer x y a b e =
-    sym (digits-mod (x / 2 ^ a % 2 ^ b) (mod-lt x (pow-pos a)))
-    ∙ ap (λ (n : ℕ). n % 2 ^ a) (sym (split x a b) ∙ e ∙ split y a b)
-    ∙ digits-mod (y / 2 ^ a % 2 ^ b) (mod-lt y (pow-pos a))
+-- the low bits of the low bits
+fewer : (x a b : ℕ) → x % 2 ^ (a + b) % 2 ^ a ≡ x % 2 ^ a
+fewer x a b =
+    ap (λ (n : ℕ). n % 2 ^ a) (split x a b) ∙ digits-mod (x / 2 ^ a % 2 ^ b) (mod-lt x (pow-pos a))
 
--- above a place
-higher : (x y a b : ℕ) → Agree (a + b) x y → Agree b (x / 2 ^ a) (y / 2 ^ a)
-higher x y a b e =
-    sym (digits-div (x / 2 ^ a % 2 ^ b) (mod-lt x (pow-pos a)))
-    ∙ ap (λ (n : ℕ). n / 2 ^ a) (sym (split x a b) ∙ e ∙ split y a b)
-    ∙ digits-div (y / 2 ^ a % 2 ^ b) (mod-lt y (pow-pos a))
+-- their high bits
+higher : (x a b : ℕ) → x % 2 ^ (a + b) / 2 ^ a ≡ x / 2 ^ a % 2 ^ b
+higher x a b = ap (λ (n : ℕ). n / 2 ^ a) (split x a b) ∙ digits-div (x / 2 ^ a % 2 ^ b) (mod-lt x (pow-pos a))
 
--- with the same bits below them
-below : (x y w a b : ℕ) → w < 2 ^ a → Agree b x y → Agree (a + b) (x * 2 ^ a + w) (y * 2 ^ a + w)
-below x y w a b h e =
-    part x ∙ ap (λ (n : ℕ). n * 2 ^ a + w) e ∙ sym (part y)
-  where
-    part : (z : ℕ) → (z * 2 ^ a + w) % 2 ^ (a + b) ≡ z % 2 ^ b * 2 ^ a + w
-    part z = split (z * 2 ^ a + w) a b ∙ ap₂ (λ (p q : ℕ). p % 2 ^ b * 2 ^ a + q) (digits-div z h) (digits-mod z h)
+-- with bits below them
+joined : (x w a b : ℕ) → w < 2 ^ a → (x * 2 ^ a + w) % 2 ^ (a + b) ≡ x % 2 ^ b * 2 ^ a + w
+joined x w a b h = split (x * 2 ^ a + w) a b ∙ ap₂ (λ (p q : ℕ). p % 2 ^ b * 2 ^ a + q) (digits-div x h) (digits-mod x h)
+
+above-zeros : (x a b : ℕ) → x * 2 ^ a % 2 ^ (a + b) ≡ x % 2 ^ b * 2 ^ a
+above-zeros x a b = ap (λ (n : ℕ). n % 2 ^ (a + b)) (sym (add-zero (x * 2 ^ a))) ∙ joined x 0 a b (pow-pos a) ∙ add-zero (x % 2 ^ b * 2 ^ a)
+
+-- ── bits that are turned ────────────────────────────────────────────────────────────────────
+
+pub turned-minus : (sign h y : ℕ) → sign ≢ 0 → turned sign h y ≡ 2 ^ h - 1 - y
+turned-minus zero h y n = absurd (n refl)
+turned-minus (suc s) h y n = refl
+
+pub turned-less : (sign h y : ℕ) → y < 2 ^ h → turned sign h y < 2 ^ h
+turned-less zero h y l = l
+turned-less (suc s) h y l = omega arith
+
+-- all of a + b bits, of which q are the upper ones
+all-bits : (a b q : ℕ) → q < 2 ^ b → 2 ^ (a + b) ≡ (2 ^ b - 1 - q) * 2 ^ a + (q * 2 ^ a + 2 ^ a)
+all-bits a b q l =
+    let r : ℕ = 2 ^ b - 1 - q in
+    pow-add 2 a b ∙ mul-comm (2 ^ a) (2 ^ b) ∙ ap (λ (n : ℕ). n * 2 ^ a) {x = 2 ^ b} {y = r + (q + 1)} (omega arith)
+    ∙ omega (arith, add-mul r (q + 1) (2 ^ a), add-mul q 1 (2 ^ a))
+
+-- two parts are turned apart
+turned-joined : (sign a b q w : ℕ) → q < 2 ^ b → w < 2 ^ a → turned sign (a + b) (q * 2 ^ a + w) ≡ turned sign b q * 2 ^ a + turned sign a w
+turned-joined zero a b q w l h = refl
+turned-joined (suc s) a b q w l h = omega (arith, all-bits a b q l)
+
+-- the low ones of turned bits, and the high ones
+module _ (sign a b y : ℕ) (h : y < 2 ^ (a + b)) where
+  small : y % 2 ^ a < 2 ^ a
+  small = mod-lt y (pow-pos a)
+
+  turned-parts : turned sign (a + b) y ≡ turned sign b (y / 2 ^ a) * 2 ^ a + turned sign a (y % 2 ^ a)
+  turned-parts =
+      ap (turned sign (a + b)) (sym (div-add-mod' y (2 ^ a)))
+      ∙ turned-joined sign a b (y / 2 ^ a) (y % 2 ^ a) (shr-lt b a (subst (λ (n : ℕ). y < 2 ^ n) {x = a + b} {y = b + a} (omega arith) h)) small
+
+  turned-low : turned sign (a + b) y % 2 ^ a ≡ turned sign a (y % 2 ^ a)
+  turned-low = ap (λ (n : ℕ). n % 2 ^ a) turned-parts ∙ digits-mod (turned sign b (y / 2 ^ a)) (turned-less sign a (y % 2 ^ a) small)
+
+  turned-high : turned sign (a + b) y / 2 ^ a ≡ turned sign b (y / 2 ^ a)
+  turned-high = ap (λ (n : ℕ). n / 2 ^ a) turned-parts ∙ digits-div (turned sign b (y / 2 ^ a)) (turned-less sign a (y % 2 ^ a) small)
 
 -- ── the bits of the scalar ──────────────────────────────────────────────────────────────────
 
@@ -67,25 +100,29 @@ shifted-lower u i j t =
 
 -- ── what was read ───────────────────────────────────────────────────────────────────────────
 
--- the `held` lowest of the bits are those of u from place i down, and the next byte is the one below them
-pub record Reading (u L i at held bits : ℕ) : Type 0 where
+-- `held` bits of u from place i down
+abbrev from : ℕ → ℕ → ℕ → ℕ
+from u i held = shifted u i (held - 1) % 2 ^ held
+
+-- they are the highest of the bits, turned for a minus, and the next byte is the one below them
+pub record Reading (u L sign i at held bits : ℕ) : Type 0 where
   pub some : 1 ≤ held
-  pub few : held ≤ 63
+  pub few : held ≤ 64
   pub level : i + 1 + 8 * at ≡ held + 8 * L
-  pub same : Agree held bits (shifted u i (held - 1))
+  pub same : bits ≡ turned sign held (from u i held) * 2 ^ (64 - held)
 
 none-above : (s : List ℕ) → Bytes s → shifted (scalar s) (8 * length s) 0 ≡ 0
 unfolding shifted
 none-above s bytes = div-eq-of-lt (omega (arith, scalar-below s bytes, bytes-power (length s)))
 
 -- at first it is the 0 above all bytes
-pub start-reading : (s : List ℕ) → Bytes s → Reading (scalar s) (length s) (8 * length s) 0 1 0
-start-reading s bytes =
+pub start-reading : (s : List ℕ) (sign bits : ℕ) → Bytes s → bits ≡ turned sign 1 0 * 2 ^ 63 → Reading (scalar s) (length s) sign (8 * length s) 0 1 bits
+start-reading s sign bits bytes e =
     record {
       some = omega arith;
       few = omega arith;
       level = omega arith;
-      same = ap (λ (x : ℕ). x % 2 ^ 1) (sym (none-above s bytes));
+      same = e ∙ ap (λ (x : ℕ). turned sign 1 (x % 2 ^ 1) * 2 ^ 63) (sym (none-above s bytes));
     }
 
 -- four zeros behind the bytes
@@ -153,62 +190,246 @@ word-is s i at held bytes some level = go (leb at (length s)) (leb→le at (leng
         (shifted-up u i (held - 1 + 32) (omega arith) ∙ ap (λ (n : ℕ). 2 ^ n * u) (omega arith) ∙ ap (λ (x : ℕ). x * u) (pow-add 2 32 more) ∙ mul-assoc (2 ^ 32) (2 ^ more) u)
         ∙ omega arith)
 
-module _ {u L i at held bits : ℕ} (r : Reading u L i at held bits) where
-  -- the 25 highest
-  pub ahead-read : 32 ≤ held → bits / 2 ^ (held - 25) % 2 ^ 25 ≡ shifted u i 24 % 2 ^ 25
-  ahead-read h =
-      let a : ℕ = held - 25 in
-      higher bits (shifted u i (held - 1)) a 25 (subst (λ (n : ℕ). Agree n bits (shifted u i (held - 1))) (omega arith) (r .same))
-      ∙ ap (λ (x : ℕ). x % 2 ^ 25) (ap (λ (n : ℕ). shifted u i n / 2 ^ a) (omega arith) ∙ shifted-above u i 24 a)
+-- y is the bits held
+module _ {u L sign i at held bits : ℕ} (r : Reading u L sign i at held bits) where
+  abbrev y : ℕ
+  y = from u i held
+
+  held-less : y < 2 ^ held
+  held-less = mod-lt (shifted u i (held - 1)) (pow-pos held)
+
+  -- there is space below them
+  pub space : bits + 2 ^ (64 - held) ≤ 2 ^ 64
+  space =
+      let c : ℕ = 64 - held in
+      let z : ℕ = turned sign held y in
+      let most : (z + 1) * 2 ^ c ≤ 2 ^ held * 2 ^ c = mul-le-mul-right (2 ^ c) (omega (arith, turned-less sign held y held-less)) in
+      omega (arith, r .same, most, add-mul z 1 (2 ^ c), sym (pow-add 2 held c) ∙ ap (λ (n : ℕ). 2 ^ n) {x = held + c} {y = 64} (omega (arith, r .few)))
 
   -- some are taken
-  pub less-read : (t i′ : ℕ) → t < held → i ≡ t + i′ → Reading u L i′ at (held - t) bits
+  pub less-read : (t i′ : ℕ) → t < held → i ≡ t + i′ → Reading u L sign i′ at (held - t) (bits * 2 ^ t % 2 ^ 64)
   less-read t i′ h e =
       record {
         some = omega arith;
         few = omega (arith, r .few);
         level = omega (arith, r .level);
         same =
-            fewer bits (shifted u i′ (held - t - 1)) (held - t) t
-            (subst (λ (n : ℕ). Agree n bits (shifted u i′ (held - t - 1))) (omega arith)
-            (r .same ∙ ap (λ (x : ℕ). x % 2 ^ held) (ap₂ (shifted u) e (omega arith) ∙ shifted-lower u i′ (held - t - 1) t)));
+            ap (λ (n : ℕ). n * 2 ^ t % 2 ^ 64) (r .same) ∙ ap (λ (n : ℕ). n % 2 ^ 64) (mul-assoc z (2 ^ (64 - held)) (2 ^ t))
+            ∙ ap₂ (λ (p q : ℕ). z * p % q) power all ∙ above-zeros z c a
+            ∙ ap (λ (n : ℕ). n * 2 ^ c) (ap (λ (n : ℕ). turned sign n y % 2 ^ a) (sym whole) ∙ turned-low sign a t y (subst (λ (n : ℕ). y < 2 ^ n) (sym whole) held-less) ∙ ap (turned sign a) low);
       }
+    where
+      a : ℕ
+      a = held - t
 
--- four bytes more
-pub fill-read : (s : List ℕ) {i at held bits : ℕ} → Bytes s → held < 32 → Reading (scalar s) (length s) i at held bits
-    → Reading (scalar s) (length s) i (at + 4) (held + 32) (bits % 2 ^ 32 * 2 ^ 32 + four s at)
-fill-read s {i} {at} {held} {bits} bytes h r =
+      c : ℕ
+      c = 64 - a
+
+      z : ℕ
+      z = turned sign held y
+
+      whole : a + t ≡ held
+      whole = omega arith
+
+      power : 2 ^ (64 - held) * 2 ^ t ≡ 2 ^ c
+      power = sym (pow-add 2 (64 - held) t) ∙ ap (λ (n : ℕ). 2 ^ n) {x = 64 - held + t} {y = c} (omega (arith, r .few))
+
+      all : 2 ^ 64 ≡ 2 ^ (c + a)
+      all = ap (λ (n : ℕ). 2 ^ n) {x = 64} {y = c + a} (omega (arith, r .few))
+
+      low : y % 2 ^ a ≡ from u i′ a
+      low =
+          ap (λ (n : ℕ). shifted u i (held - 1) % 2 ^ n % 2 ^ a) (sym whole) ∙ fewer (shifted u i (held - 1)) a t
+          ∙ ap (λ (n : ℕ). n % 2 ^ a) (ap₂ (shifted u) e (omega arith) ∙ shifted-lower u i′ (a - 1) t)
+
+-- eight bytes are the 64 bits below those held
+eight-is : (s : List ℕ) (i at held : ℕ) → Bytes s → 1 ≤ held → i + 1 + 8 * at ≡ held + 8 * length s → eight s at ≡ shifted (scalar s) i (held - 1 + 64) % 2 ^ 64
+eight-is s i at held bytes some level =
+    let X : ℕ = shifted (scalar s) i (held - 1 + 64) in
+    let high : four s at ≡ X / 2 ^ 32 % 2 ^ 32 =
+    word-is s i at held bytes some level
+    ∙ ap (λ (n : ℕ). n % 2 ^ 32) (sym (shifted-above (scalar s) i (held - 1 + 32) 32) ∙ ap (λ (n : ℕ). shifted (scalar s) i n / 2 ^ 32) {x = held - 1 + 32 + 32} {y = held - 1 + 64} (omega arith))
+    in
+    let low : four s (at + 4) ≡ X % 2 ^ 32 =
+    word-is s i (at + 4) (held + 32) bytes (omega arith) (omega arith) ∙ ap (λ (n : ℕ). shifted (scalar s) i n % 2 ^ 32) {x = held + 32 - 1 + 32} {y = held - 1 + 64} (omega arith)
+    in
+    omega (arith, split X 32 32, high, low)
+
+-- as many bytes more as there is room for
+pub fill-read : (s : List ℕ) (sign : ℕ) (b r : Bits) {i : ℕ} → Bytes s → b .held ≤ 56 → Filled s sign b r → Reading (scalar s) (length s) sign i (b .at) (b .held) (b .bits)
+    → Reading (scalar s) (length s) sign i (r .at) (r .held) (r .bits)
+fill-read s sign b r {i} bytes h f g =
     record {
-      some = omega arith;
-      few = omega arith;
-      level = omega (arith, r .level);
-      same = subst (λ (n : ℕ). Agree n (bits % 2 ^ 32 * 2 ^ 32 + w) (shifted u i (held + 32 - 1))) {x = 32 + held} {y = held + 32} (omega arith)
-          (below (bits % 2 ^ 32) (shifted u i (held - 1)) w 32 held (four-small s at bytes) inner ∙ ap (λ (x : ℕ). x % 2 ^ (32 + held)) (sym whole));
+      some = omega (arith, f .1 .0, g .some);
+      few = omega (arith, f .1 .0, whole);
+      level = omega (arith, f .0, f .1 .0, g .level, whole);
+      same =
+          f .1 .1
+          ∙ ap₂ (λ (p q : ℕ). p + q * 2 ^ c) (g .same ∙ ap (λ (n : ℕ). z * n) power ∙ sym (mul-assoc z (2 ^ more) (2 ^ c))) word-turned
+          ∙ sym (add-mul (z * 2 ^ more) (turned sign more w) (2 ^ c))
+          ∙ ap₂ (λ (p q : ℕ). p * 2 ^ q) (sym (turned-joined sign more held y w (held-less g) w-less) ∙ ap₂ (turned sign) (sym long) (sym all)) (omega (arith, f .1 .0, whole));
     }
   where
+    held : ℕ
+    held = b .held
+
     u : ℕ
     u = scalar s
 
+    c : ℕ
+    c = (64 - held) % 8
+
+    more : ℕ
+    more = room held
+
+    rest : ℕ
+    rest = 64 - more
+
+    whole : held + more + c ≡ 64
+    whole = omega (arith, g .few)
+
+    e : ℕ
+    e = eight s (b .at)
+
     w : ℕ
-    w = four s at
+    w = e / 2 ^ rest
 
-    inner : Agree held (bits % 2 ^ 32) (shifted u i (held - 1))
-    inner =
-        fewer (bits % 2 ^ 32) bits held (32 - held)
-        (subst (λ (n : ℕ). Agree n (bits % 2 ^ 32) bits) {x = 32} {y = held + (32 - held)} (omega arith) (mod-mod bits (2 ^ 32)))
-        ∙ r .same
+    y : ℕ
+    y = from u i held
 
-    whole : shifted u i (held + 32 - 1) ≡ shifted u i (held - 1) * 2 ^ 32 + w
-    whole =
-        ap (shifted u i) (omega (arith, r .some))
-        ∙ sym (div-add-mod' (shifted u i (held - 1 + 32)) (2 ^ 32))
-        ∙ ap₂ (λ (x y : ℕ). x * 2 ^ 32 + y) (shifted-above u i (held - 1) 32) (sym (word-is s i at held bytes (r .some) (r .level)))
+    z : ℕ
+    z = turned sign held y
 
--- at least 32 are held after a call that fills them
-pub refilled : (s : List ℕ) (b r : Bits) {i : ℕ} → Bytes s → Filled s b r → Reading (scalar s) (length s) i (b .at) (b .held) (b .bits)
-    → (32 ≤ r .held) × Reading (scalar s) (length s) i (r .at) (r .held) (r .bits)
-refilled s b r {i} bytes f g = go (leb 32 (b .held)) (leb→le 32 (b .held)) (nleb→lt 32 (b .held))
+    e-less : e < 2 ^ 64
+    e-less = omega (arith, four-small s (b .at) bytes, four-small s (b .at + 4) bytes)
+
+    e-parts : e < 2 ^ (rest + more)
+    e-parts = subst (λ (n : ℕ). e < 2 ^ n) {x = 64} {y = rest + more} (omega (arith, whole)) e-less
+
+    w-less : w < 2 ^ more
+    w-less = shr-lt more rest (subst (λ (n : ℕ). e < 2 ^ n) {x = 64} {y = more + rest} (omega (arith, whole)) e-less)
+
+    word-turned : turned sign 64 e / 2 ^ rest ≡ turned sign more w
+    word-turned = ap (λ (n : ℕ). turned sign n e / 2 ^ rest) {x = 64} {y = rest + more} (omega (arith, whole)) ∙ turned-high sign rest more e e-parts
+
+    long : r .held ≡ more + held
+    long = f .1 .0 ∙ omega arith
+
+    power : 2 ^ (64 - held) ≡ 2 ^ more * 2 ^ c
+    power = ap (λ (n : ℕ). 2 ^ n) {x = 64 - held} {y = more + c} (omega (arith, whole)) ∙ pow-add 2 more c
+
+    -- they are the next ones of the scalar
+    word-bits : w ≡ shifted u i (held - 1 + more) % 2 ^ more
+    word-bits =
+        ap (λ (n : ℕ). n / 2 ^ rest) (eight-is s i (b .at) held bytes (g .some) (g .level))
+        ∙ ap (λ (n : ℕ). shifted u i (held - 1 + 64) % 2 ^ n / 2 ^ rest) {x = 64} {y = rest + more} (omega (arith, whole)) ∙ higher (shifted u i (held - 1 + 64)) rest more
+        ∙ ap (λ (n : ℕ). n % 2 ^ more)
+        (ap (λ (n : ℕ). shifted u i n / 2 ^ rest) {x = held - 1 + 64} {y = held - 1 + more + rest} (omega (arith, whole)) ∙ shifted-above u i (held - 1 + more) rest)
+
+    all : from u i (r .held) ≡ y * 2 ^ more + w
+    all =
+        ap (λ (n : ℕ). shifted u i (n - 1) % 2 ^ n) long
+        ∙ ap (λ (n : ℕ). n % 2 ^ (more + held))
+        (ap (shifted u i) {x = more + held - 1} {y = held - 1 + more} (omega (arith, g .some))
+        ∙ sym (div-add-mod' (shifted u i (held - 1 + more)) (2 ^ more))
+        ∙ ap₂ (λ (p q : ℕ). p * 2 ^ more + q) (shifted-above u i (held - 1) more) (sym word-bits))
+        ∙ joined (shifted u i (held - 1)) w more held w-less
+
+-- ── what the bits held tell ─────────────────────────────────────────────────────────────────
+
+-- a number of n + 1 bits above c others that is folded
+module _ (n c z x : ℕ) (all : suc n + c ≡ 64) (few : z < 2 ^ suc n) (f : Folded (z * 2 ^ c) x) where
+  half-all : 2 ^ 63 ≡ 2 ^ n * 2 ^ c
+  half-all = ap (λ (k : ℕ). 2 ^ k) {x = 63} {y = n + c} (omega arith) ∙ pow-add 2 n c
+
+  all-all : 2 ^ 64 ≡ 2 ^ suc n * 2 ^ c
+  all-all = ap (λ (k : ℕ). 2 ^ k) {x = 64} {y = suc n + c} (omega arith) ∙ pow-add 2 (suc n) c
+
+  high-is : z * 2 ^ c / 2 ^ 63 ≡ z / 2 ^ n
+  high-is = ap₂ (λ (p q : ℕ). p / q) (mul-comm z (2 ^ c)) (half-all ∙ mul-comm (2 ^ n) (2 ^ c)) ∙ mul-div-mul-left z (2 ^ n) (pow-pos c)
+
+  fold-plus : z < 2 ^ n → x / 2 ^ c ≡ z
+  fold-plus l = ap (λ (k : ℕ). k / 2 ^ c) (f .0 (omega (arith, half-all, mul-lt-mul-of-pos-right l (pow-pos c)))) ∙ shl-shr z c
+
+  fold-minus : 2 ^ n ≤ z → x / 2 ^ c ≡ 2 ^ suc n - 1 - z
+  fold-minus l =
+      let q : ℕ = 2 ^ suc n - 1 - z in
+      let sum = f .1 (omega (arith, half-all, mul-le-mul-right (2 ^ c) l)) in
+      ap (λ (k : ℕ). k / 2 ^ c) {x = x} {y = q * 2 ^ c + (2 ^ c - 1)} (omega (arith, sum, all-all, all-bits c (suc n) z few, pow-add 2 c (suc n), mul-comm (2 ^ c) (2 ^ suc n), pow-pos c))
+      ∙ digits-div q (omega (arith, pow-pos c))
+
+-- the bits below the one at place i, and its sign in the row
+pub record Seen (n u i x sign high : ℕ) : Type 0 where
+  pub bit : ℕ
+  pub ahead : Ahead n u i x bit
+  pub signs : Signs sign bit high
+
+seen-below : {u L sign i at n bits : ℕ} (x : ℕ) → Reading u L sign i at (suc n) bits → Folded bits x → Seen n u i (x / 2 ^ (63 - n)) sign (bits / 2 ^ 63)
+seen-below {u} {L} {sign} {i} {at} {n} {bits} x r f =
+    go sign (r .same ∙ ap (λ (k : ℕ). turned sign (suc n) y * 2 ^ k) (omega arith)) (leb (2 ^ n) y) (leb→le (2 ^ n) y) (nleb→lt (2 ^ n) y)
   where
-    go : (t : Bool) → (T t → 32 ≤ b .held) → (T (not t) → b .held < 32) → (32 ≤ r .held) × Reading (scalar s) (length s) i (r .at) (r .held) (r .bits)
-    go true p q = let n = f .0 (p tt) in (omega (arith, n .1 .0, p tt), rw (n .0, n .1 .0, n .1 .1) g)
-    go false p q = let n = f .1 (q tt) in (omega (arith, n .1 .0), rw (n .0, n .1 .0, n .1 .1) (fill-read s bytes (q tt) g))
+    c : ℕ
+    c = 63 - n
+
+    y : ℕ
+    y = from u i (suc n)
+
+    is : y ≡ shifted u i n % 2 ^ suc n
+    is = ap (λ (k : ℕ). shifted u i k % 2 ^ suc n) (omega arith)
+
+    less : y < 2 ^ suc n
+    less = held-less r
+
+    twice : 2 ^ suc n ≡ 2 * 2 ^ n
+    twice = pow-succ' 2 n
+
+    all : suc n + c ≡ 64
+    all = omega (arith, r .few)
+
+    one : (z : ℕ) → 2 ^ n ≤ z → z < 2 ^ suc n → z / 2 ^ n ≡ 1
+    one z g l = div-eq-of-lt-le (2 ^ n) (omega arith) (omega (arith, twice))
+
+    go : (sign : ℕ) → bits ≡ turned sign (suc n) y * 2 ^ c → (t : Bool) → (T t → 2 ^ n ≤ y) → (T (not t) → y < 2 ^ n) → Seen n u i (x / 2 ^ c) sign (bits / 2 ^ 63)
+    go zero e true p q =
+        let g = subst (λ (k : ℕ). Folded k x) e f in
+        record {
+          bit = 1;
+          ahead = read-minus n u i (x / 2 ^ c) y is (p tt) (omega (arith, fold-minus n c y x all less g (p tt), less));
+          signs = rw (e, high-is n c y x all less g, one y (p tt) less) (λ z. refl);
+        }
+    go zero e false p q =
+        let g = subst (λ (k : ℕ). Folded k x) e f in
+        record {
+          bit = 0;
+          ahead = read-plus n u i (x / 2 ^ c) y is (q tt) (fold-plus n c y x all less g (q tt));
+          signs = rw (e, high-is n c y x all less g, div-eq-of-lt (q tt)) (λ z. refl);
+        }
+    go (suc s) e true p q =
+        let z : ℕ = 2 ^ suc n - 1 - y in
+        let g = subst (λ (k : ℕ). Folded k x) e f in
+        let some : z < 2 ^ suc n = turned-less (suc s) (suc n) y less in
+        let low : z < 2 ^ n = omega (arith, twice, p tt, less) in
+        record {
+          bit = 1;
+          ahead = read-minus n u i (x / 2 ^ c) y is (p tt) (omega (arith, fold-plus n c z x all some g low, less));
+          signs = rw (e, high-is n c z x all some g, div-eq-of-lt low) (minus-sign s 1 (omega arith));
+        }
+    go (suc s) e false p q =
+        let z : ℕ = 2 ^ suc n - 1 - y in
+        let g = subst (λ (k : ℕ). Folded k x) e f in
+        let some : z < 2 ^ suc n = turned-less (suc s) (suc n) y less in
+        let high : 2 ^ n ≤ z = omega (arith, twice, q tt) in
+        record {
+          bit = 0;
+          ahead = read-plus n u i (x / 2 ^ c) y is (q tt) (omega (arith, fold-minus n c z x all some g high, less));
+          signs = rw (e, high-is n c z x all some g, one z high some) (minus-sign s 0 (omega arith));
+        }
+
+pub seen : {u L sign i at held bits : ℕ} (x : ℕ) → Reading u L sign i at held bits → Folded bits x → Seen (held - 1) u i (x / 2 ^ (64 - held)) sign (bits / 2 ^ 63)
+seen {u} {L} {sign} {i} {at} {held} {bits} x r f = go held r
+  where
+    go : (h : ℕ) → Reading u L sign i at h bits → Seen (h - 1) u i (x / 2 ^ (64 - h)) sign (bits / 2 ^ 63)
+    go zero r = absurd (omega (arith, r .some))
+    go (suc n) r =
+        subst (λ (k : ℕ). Seen k u i (x / 2 ^ (64 - suc n)) sign (bits / 2 ^ 63)) {x = n} {y = suc n - 1} (omega arith)
+        (subst (λ (k : ℕ). Seen n u i (x / 2 ^ k) sign (bits / 2 ^ 63)) {x = 63 - n} {y = 64 - suc n} (omega arith) (seen-below x r f))

@@ -3,10 +3,12 @@ ghost use Prim.Native.Nat.{_+_, _-_, _*_, _/_, _%_, _^_, _<_, _≤_};
 ghost use lib.ListN.{length, getD};
 ghost use Rattle.digits.specs.Limits.{gateway};
 ghost use Rattle.digits.specs.Scalar.{bitLength};
-ghost use Rattle.down.specs.Body.Ahead.{four, Filled};
+ghost use Rattle.down.specs.Body.Ahead.{four, eight, turned, Filled, Folded};
 
-// 2^25.
-const BITS_AHEAD: u64 = 33554432;
+// 2^63, and 2^64 − 1: the highest one of 64 bits, and all of them.
+const HIGHEST: u64 = 9223372036854775808;
+
+const ALL_BITS: u64 = 18446744073709551615;
 
 // 2^32.
 const WORD: u64 = 4294967296;
@@ -51,7 +53,23 @@ fn word_at(scalar: &[u8], at: usize) -> u32
     65536 * high + low
 }
 
-// The bits of a scalar that were read and not yet taken, the `held` lowest of `bits`. The next byte is the one at `at`.
+// Eight bytes as one number, with zeros past the end.
+fn eight_at(scalar: &[u8], at: usize) -> u64
+    requires { ⌜ at + 4 ≤ 2 * gateway .bytes ⌝ }
+    ensures { λ r. ⌜ r ≡ eight (now (scalar .entry)) at ⌝ }
+{
+    WORD * (word_at(scalar, at) as u64) + word_at(scalar, at + 4) as u64
+}
+
+// Eight bytes as they are, or with every bit turned for a minus.
+fn eight_with(eight: u64, sign: u32) -> u64
+    ensures { λ r. ⌜ (r ≡ turned sign 64 eight) × (r < 2 ^ 64) ⌝ }
+{
+    if sign == 0 { eight } else { ALL_BITS - eight }
+}
+
+// The bits of a scalar that were read and not yet taken, turned for a minus: the `held` highest of `bits`, and zeros below them. The next
+// byte is the one at `at`.
 pub struct Bits {
     pub at: usize,
     pub held: u32,
@@ -60,56 +78,58 @@ pub struct Bits {
 
 impl Bits {
     // The 0 above all bytes.
-    pub fn new() -> Self
-        ensures { λ r. ⌜ (r .at ≡ 0) × ((r .held ≡ 1) × (r .bits ≡ 0)) ⌝ }
+    pub fn new(sign: u32) -> Self
+        ensures { λ r. ⌜ (r .at ≡ 0) × ((r .held ≡ 1) × (r .bits ≡ turned sign 1 0 * 2 ^ 63)) ⌝ }
     {
         Bits {
             at: 0,
             held: 1,
-            bits: 0,
+            bits: if sign == 0 { 0 } else { HIGHEST },
         }
     }
 
-    // The same with 32 bits at least: four bytes more where there are fewer.
-    pub fn filled(self, scalar: &[u8]) -> Self
-        requires { ⌜ self .at ≤ 2 * gateway .bytes ⌝ }
-        ensures { λ r. ⌜ Filled (now (scalar .entry)) self r ⌝ }
+    // The same with as many bytes more as there is room for.
+    pub fn filled(self, scalar: &[u8], sign: u32) -> Self
+        requires { ⌜ (self .at + 4 ≤ 2 * gateway .bytes) × ((self .held ≤ 56) × (self .bits + 2 ^ (64 - self .held) ≤ 2 ^ 64)) ⌝ }
+        ensures { λ r. ⌜ Filled (now (scalar .entry)) sign self r ⌝ }
     {
-        let at = self.at;
-        let held = self.held;
-        let bits = self.bits;
-        if 32 <= held {
-            return Bits {
-                at: at,
-                held: held,
-                bits: bits,
-            };
-        }
-        let word = word_at(scalar, at) as u64;
+        let low = (64 - self.held) % 8;
+        let more = 64 - self.held - low;
+        let word = eight_with(eight_at(scalar, self.at), sign);
         Bits {
-            at: at + 4,
-            held: held + 32,
-            bits: bits % WORD * WORD + word,
+            at: self.at + (more / 8) as usize,
+            held: self.held + more,
+            bits: self.bits + ((word >> (64 - more)) << low),
         }
     }
 
-    // The 25 highest.
-    pub fn ahead(self) -> u32
-        requires { ⌜ (32 ≤ self .held) × (self .held ≤ 63) ⌝ }
-        ensures { λ r. ⌜ r ≡ self .bits / 2 ^ (self .held - 25) % 2 ^ 25 ⌝ }
+    // The highest one.
+    pub fn highest(self) -> u32
+        ensures { λ r. ⌜ r ≡ self .bits / 2 ^ 63 ⌝ }
     {
-        ((self.bits >> (self.held - 25)) % BITS_AHEAD) as u32
+        (self.bits >> 63) as u32
+    }
+
+    // Those below the highest one, each turned where that one is set.
+    pub fn folded(self) -> u64
+        ensures { λ r. ⌜ Folded (self .bits) r ⌝ }
+    {
+        if self.bits < HIGHEST {
+            self.bits
+        } else {
+            ALL_BITS - self.bits
+        }
     }
 
     // Without the highest ones.
     pub fn less(self, taken: u32) -> Self
-        requires { ⌜ taken ≤ self .held ⌝ }
-        ensures { λ r. ⌜ (r .at ≡ self .at) × ((r .held ≡ self .held - taken) × (r .bits ≡ self .bits)) ⌝ }
+        requires { ⌜ (taken ≤ self .held) × (taken < 64) ⌝ }
+        ensures { λ r. ⌜ (r .at ≡ self .at) × ((r .held ≡ self .held - taken) × (r .bits ≡ self .bits * 2 ^ taken % 2 ^ 64)) ⌝ }
     {
         Bits {
             at: self.at,
             held: self.held - taken,
-            bits: self.bits,
+            bits: self.bits << taken,
         }
     }
 }
@@ -121,10 +141,9 @@ pub fn bits_of(n: u32) -> u32
     32 - u32::leading_zeros(n)
 }
 
-// The place of the top bit of a number that is not 0.
-pub fn top_of(n: u32) -> u32
-    requires { ⌜ 0 < n ⌝ }
-    ensures { λ r. ⌜ r + 1 ≡ bitLength n ⌝ }
+// How many of 64 bits stand above the bits of a number.
+pub fn zeros_above(n: u64) -> u32
+    ensures { λ r. ⌜ r + bitLength n ≡ 64 ⌝ }
 {
-    31 - u32::leading_zeros(n)
+    u64::leading_zeros(n)
 }

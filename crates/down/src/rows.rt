@@ -1,15 +1,16 @@
 ghost use mathlib.Core.Path.{_≡_};
-ghost use mathlib.Core.Logic.{_≢_};
 ghost use mathlib.Core.List.{map};
-ghost use Prim.Native.Nat.{_+_, _-_, _*_, _<_, _≤_};
+ghost use Prim.Native.Nat.{_+_, _*_, _≤_};
 ghost use lib.ListN.{length, set, replicate};
 ghost use Rattle.digits.specs.Integer.{signedBy};
 ghost use Rattle.digits.specs.Limits.{card, gateway};
+ghost use Rattle.digits.specs.Row as Rows;
 ghost use Rattle.digits.specs.Row.{widest};
 ghost use Rattle.digits.specs.Scalar;
 ghost use Rattle.digits.specs.Scalar.{signedScalar};
 ghost use Rattle.forms.specs.Residue;
 ghost use Rattle.recode.specs.Call.{number, wroteRow, filled, rowQuestion};
+ghost use Rattle.down.specs.Body.Length.{UpTo};
 ghost use Rattle.down.specs.Body.Window.{placeOf, byteFor, Placed};
 ghost use Rattle.down.specs.Call.{downAnswer, downBuffer, DownPromised};
 ghost use Rattle.down.specs.Down.{natural, down};
@@ -18,90 +19,81 @@ use crate::window::Window;
 use digits::Limits;
 use recode::Recoded;
 
-// The length of a row, which the first digit from the top tells.
-fn length_of(length: usize, here: usize) -> usize
-    ensures { λ r. ⌜ (length ≡ 0 → r ≡ here) × (length ≢ 0 → r ≡ length) ⌝ }
+// Stores the digit of a window with the equal bits above it, whose highest place is `place`.
+fn store(out: &mut [u8], place: usize, window: Window, sign: u32)
+    requires { ⌜ Placed place window (length (now out)) ⌝ }
+    ensures { λ _. ⌜ now (out .exit) ≡ set (now (out .entry)) (placeOf place window) (byteFor window sign) ⌝ }
 {
-    if length == 0 { here } else { length }
-}
-
-// Stores the digit of a window whose highest place is `top`, and returns the place above it.
-fn store(out: &mut [u8], top: usize, window: Window, sign: u32) -> usize
-    requires { ⌜ Placed top window (length (now out)) ⌝ }
-    ensures { λ r. ⌜ r ≡ placeOf top window + 1 ⌝ }
-    ensures { λ _. ⌜ now (out .exit) ≡ set (now (out .entry)) (placeOf top window) (byteFor window sign) ⌝ }
-{
-    let here = top + 1 + window.zeros as usize - window.width as usize;
+    let here = place + 1 + window.zeros as usize - window.taken as usize;
     out[here] = crate::window::byte_of(window.odd, sign);
-    here + 1
 }
 
-// Writes the scalar's row from the top down for the window m of the width W, with a sign, into places that hold 0: eight for each byte,
-// and one more. The bits equal to the highest one left are skipped, at most 24 at a turn; 25 are enough for them and a window.
-fn write_digits(scalar: &[u8], sign: u32, m: u32, width: u32, out: &mut [u8]) -> Recoded
-    requires { ⌜ (length (now scalar) ≤ gateway .bytes) × ((1 ≤ m) × ((m ≤ widest) × (width ≡ Residue.width m))) ⌝ }
+// Writes the scalar's row from the top down for the window m of `below` + 1 places, with a sign, into places that hold 0: eight for each
+// byte, and one more. Returns its weight. The bits equal to the highest one left are skipped, 51 at a turn where no window is in sight.
+fn write_digits(scalar: &[u8], sign: u32, m: u32, below: u32, out: &mut [u8]) -> usize
+    requires { ⌜ (length (now scalar) ≤ gateway .bytes) × ((1 ≤ m) × ((m ≤ widest) × (below + 1 ≡ Residue.width m))) ⌝ }
     requires { ⌜ (now out ≡ replicate (length (now out)) 0) × (length (now out) ≡ 8 * length (now scalar) + 1) ⌝ }
-    ensures { λ r. ⌜ r ≡ wroteRow (map (signedBy sign) (natural m (Scalar.scalar (now (scalar .entry))))) ⌝ }
+    ensures { λ r. ⌜ r ≡ Rows.weight (map (signedBy sign) (natural m (Scalar.scalar (now (scalar .entry))))) ⌝ }
     ensures { λ _. ⌜ now (out .exit) ≡ filled (map (signedBy sign) (natural m (Scalar.scalar (now (scalar .entry))))) (now (out .entry)) ⌝ }
 {
-    let whole = crate::window::is_whole(m, width);
     let mut place = 8 * scalar.len();
-    let mut bits = Bits::new();
-    let mut length = 0;
+    let mut bits = Bits::new(sign);
     let mut weight = 0;
     loop {
-        let full = bits.filled(scalar);
-        let ahead = full.ahead();
-        let x = crate::window::folded(ahead);
-        if x < 64 {
-            let equal = 24 - crate::bits::bits_of(x);
-            if place < equal as usize {
-                return Recoded::Written(length, weight);
+        let x = bits.folded();
+        let most = crate::bits::zeros_above(x) + below;
+        if bits.held <= most {
+            if bits.held <= 56 {
+                bits = bits.filled(scalar, sign);
+                continue;
             }
-            place -= equal as usize;
-            bits = full.less(equal);
+            if place < 51 {
+                return weight;
+            }
+            place -= 51;
+            bits = bits.less(51);
             continue;
         }
-        let last = crate::bits::top_of(x);
-        let equal = 23 - last;
-        let top = place - equal as usize;
-        let minus = crate::window::signed(ahead >> 24, sign);
-        let size = crate::window::size_of(x, last, width);
-        // A path of its own, which the processor foresees: the next place does not wait for the size.
-        if whole {
-            let window = crate::window::sized(width, size);
-            length = length_of(length, store(out, top, window, minus));
-            weight += 1;
-            if top < width as usize {
-                return Recoded::Written(length, weight);
-            }
-            place = top - width as usize;
-            bits = full.less(equal + width);
-            continue;
-        }
-        let taken = crate::window::width_for(size, m, width);
-        let window = crate::window::sized(taken, crate::window::size_of(x, last, taken));
-        length = length_of(length, store(out, top, window, minus));
+        let window = crate::window::window_of(x, most, m);
+        store(out, place, window, bits.highest());
         weight += 1;
-        if top < taken as usize {
-            return Recoded::Written(length, weight);
+        let taken = window.taken as usize;
+        if place < taken {
+            return weight;
         }
-        place = top - taken as usize;
-        bits = full.less(equal + taken);
+        place -= taken;
+        bits = bits.less(window.taken);
     }
 }
 
-// Writes the row of a scalar with a sign from the top down for the window m, and zeros above it. Of the buffer only
-// eight places for each byte and one more are lent to the digits.
+// How many places there are up to the highest one that is not 0.
+fn length_of(row: &[u8]) -> usize
+    ensures { λ r. ⌜ UpTo (now (row .entry)) r ⌝ }
+{
+    let mut length = row.len();
+    while 0 < length {
+        if row[length - 1] != 0 {
+            return length;
+        }
+        length -= 1;
+    }
+    0
+}
+
+// Writes the row of a scalar with a sign from the top down for the window m, and zeros above it. Of the buffer only eight places for each
+// byte from the first one that is not 0, and one more, are lent to the digits.
 fn write_row(scalar: &[u8], sign: u32, m: u32, out: &mut [u8]) -> Recoded
-    requires { ⌜ (length (now scalar) ≤ gateway .bytes) × ((1 ≤ m) × ((m ≤ widest) × (8 * length (now scalar) + 1 ≤ length (now out)))) ⌝ }
+    requires { ⌜ (1 ≤ length (now scalar)) × ((length (now scalar) ≤ gateway .bytes) × ((1 ≤ m) × ((m ≤ widest) × (8 * length (now scalar) + 1 ≤ length (now out))))) ⌝ }
     ensures { λ r. ⌜ r ≡ wroteRow (down m (signedScalar (now (scalar .entry)) sign)) ⌝ }
     ensures { λ _. ⌜ now (out .exit) ≡ filled (down m (signedScalar (now (scalar .entry)) sign)) (now (out .entry)) ⌝ }
 {
-    let places = 8 * scalar.len() + 1;
+    let used = digits::bit_length(scalar).below + 1;
+    let first = scalar.len() - used;
+    let places = 8 * used + 1;
     digits::clear(out);
-    let width = crate::bits::bits_of(m) + 1;
-    write_digits(scalar, sign, m, width, &mut out[..places])
+    let below = crate::bits::bits_of(m);
+    let weight = write_digits(&scalar[first..], sign, m, below, &mut out[..places]);
+    Recoded::Written(length_of(&out[..places]), weight)
 }
 
 // The call by any limits up to the gateway's.

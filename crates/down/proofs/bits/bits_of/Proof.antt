@@ -1,4 +1,5 @@
 -- `bits_of` meets its contract: 32 less the leading zeros.
+use native.Mathlib.Omega.{arith}
 use lib.Count.{leading-le}
 use Rattle.down.proofs.BitLength.{length-is}
 use Rattle.down.proofs.bits.bits_of.Statement.{statement}
@@ -8,7 +9,7 @@ sub-result : tie.Need-sub-result
 sub-result c = leading-le 32 _
 
 returns : tie.Need-returns
-returns c = length-is (c .args .n) (c .fits .n .fits)
+returns c = omega (arith, length-is 32 (c .args .n) (c .fits .n .fits))
 
 pub bits-of-spec : {M : Type 1} → statement M
 bits-of-spec = tie.close (tie.spec sub-result returns)

@@ -24,11 +24,11 @@ module _ (c : tie.Then1) where
   size : sized (asked .args .limits) (asked .args .scalar .now) ≡ true
   size = sym (c .before .is-scalar .ensures) ∙ c .if1 .taken
 
-  few : length (asked .args .scalar .now) ≤ asked .args .limits .bytes
-  few = some-bytes (asked .args .limits) (asked .args .scalar .now) size .1
+  count : (1 ≤ length (asked .args .scalar .now)) × (length (asked .args .scalar .now) ≤ asked .args .limits .bytes)
+  count = some-bytes (asked .args .limits) (asked .args .scalar .now) size
 
   few-gateway : length (asked .args .scalar .now) ≤ gateway .bytes
-  few-gateway = le-trans few (asked .pre)
+  few-gateway = le-trans (count .1) (asked .pre)
 
 -- question 2 is met
 module _ (c : tie.Then2) where
@@ -63,7 +63,7 @@ returns c =
 write-row-requires : tie.Need-write-row-requires
 write-row-requires c κs =
     let e = c .before in
-    let q = e .before in (few-gateway (first q), (bounds q .0, (bounds q .1, omega (arith, e .if3 .left))))
+    let q = e .before in (count (first q) .0, (few-gateway (first q), (bounds q .0, (bounds q .1, omega (arith, e .if3 .left)))))
 
 same-length : tie.Need-same-length
 same-length c = search needs

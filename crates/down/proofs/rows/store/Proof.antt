@@ -1,5 +1,5 @@
 -- `store` meets its contract: the digit's byte at its place.
-use mathlib.Core.Path.{refl, ap}
+use mathlib.Core.Path.{ap}
 use lib.ListN.{set}
 use Rattle.down.specs.Body.Window.{placeOf}
 use borrow.Author.Needs.{needs}
@@ -27,15 +27,11 @@ byte-of-requires c κs = search needs
 slice-write-out : tie.Need-slice-write-out
 slice-write-out c = search needs
 
-add-result : tie.Need-add-result
-add-result c = search needs
-
 same-length : tie.Need-same-length
 same-length c = search needs
 
 returns : tie.Need-returns
-returns c =
-    let a = c .before .before .before .before .args in (refl, ap (set (a .out .now) (placeOf (a .top) (a .window))) (c .byte-of .ensures))
+returns c = let a = c .before .before .before .before .args in ap (set (a .out .now) (placeOf (a .place) (a .window))) (c .byte-of .ensures)
 
 pub store-spec : {M : Type 1} → statement M
 store-spec =
@@ -48,6 +44,5 @@ store-spec =
     sub-here
     byte-of-requires
     slice-write-out
-    add-result
     same-length
     returns)
