@@ -4,6 +4,7 @@ pub mod UsedBytes
 pub mod BitLength
 pub mod WindowSize
 pub mod AheadBits
+pub mod TurnedBits
 pub mod Reading
 pub mod HeldBits
 pub mod DigitPlaces

@@ -1,84 +1,22 @@
 -- The bits that were read and not yet taken: those of the scalar from a place down, turned for a minus, and zeros below them. More bytes go
 -- below them, and the highest are taken off.
 use mathlib.Core.Path.{_≡_, refl, sym, ap, ap₂, subst, _∙_}
-use mathlib.Core.Logic.{_≢_}
 use mathlib.Core.Bool.{Bool, true, false, not}
 use mathlib.Core.List.{List, [], _∷_, _++_}
 use Prim.Native.Nat.{ℕ, zero, suc, _+_, _*_, _-_, _/_, _%_, _^_, _≤_, _<_}
-use native.Mathlib.Nat.{mul-comm, mul-assoc, add-mul, mul-div-mul-left, add-zero, mul-le-mul-right, mul-lt-mul-of-pos-right, div-div-eq-div-mul, add-mul-mod-self-left, mod-lt, mod-eq-of-lt, div-eq-of-lt, div-eq-of-lt-le, div-add-mod', pow-succ'}
+use native.Mathlib.Nat.{mul-comm, mul-assoc, add-mul, mul-div-mul-left, mul-le-mul-right, div-div-eq-div-mul, add-mul-mod-self-left, mod-lt, mod-eq-of-lt, div-eq-of-lt, div-add-mod'}
 use native.Mathlib.Omega.{arith}
-use lib.Arith.{digits-div, digits-mod, mod-mul}
 use lib.Dec.{T, leb, leb→le, nleb→lt}
 use lib.ListN.{length, getD, take, replicate, length-append}
-use lib.Pow.{pow-add, pow-pos, shl-shr, shr-lt}
+use lib.Pow.{pow-add, pow-pos, shr-lt}
 use Rattle.digits.specs.Buffer.Zeros.{padded-at}
 use Rattle.digits.specs.Scalar.{Bytes, little, scalar}
 use Rattle.digits.specs.Scalar.Value.{scalar-below, bytes-power}
 use Rattle.down.specs.declared.bits.Bits.{Bits}
-use Rattle.down.specs.Body.Ahead.{four, eight, turned, room, Filled, Folded}
+use Rattle.down.specs.Body.Ahead.{four, eight, turned, room, Filled}
 use Rattle.down.specs.Down.Bits.{shifted, shifted-up}
-use Rattle.down.proofs.AheadBits.{Ahead, read-plus, read-minus}
 use Rattle.down.proofs.FourBytes.{scalar-append, first-bytes, four-more}
-use Rattle.down.proofs.WindowSize.{Signs, minus-sign}
-
--- ── low bits ────────────────────────────────────────────────────────────────────────────────
-
-split : (x a b : ℕ) → x % 2 ^ (a + b) ≡ (x / 2 ^ a % 2 ^ b) * 2 ^ a + x % 2 ^ a
-split x a b = ap (λ (n : ℕ). x % n) (pow-add 2 a b ∙ mul-comm (2 ^ a) (2 ^ b)) ∙ mod-mul x (pow-pos b) (pow-pos a)
-
--- the low bits of the low bits
-fewer : (x a b : ℕ) → x % 2 ^ (a + b) % 2 ^ a ≡ x % 2 ^ a
-fewer x a b =
-    ap (λ (n : ℕ). n % 2 ^ a) (split x a b) ∙ digits-mod (x / 2 ^ a % 2 ^ b) (mod-lt x (pow-pos a))
-
--- their high bits
-higher : (x a b : ℕ) → x % 2 ^ (a + b) / 2 ^ a ≡ x / 2 ^ a % 2 ^ b
-higher x a b = ap (λ (n : ℕ). n / 2 ^ a) (split x a b) ∙ digits-div (x / 2 ^ a % 2 ^ b) (mod-lt x (pow-pos a))
-
--- with bits below them
-joined : (x w a b : ℕ) → w < 2 ^ a → (x * 2 ^ a + w) % 2 ^ (a + b) ≡ x % 2 ^ b * 2 ^ a + w
-joined x w a b h = split (x * 2 ^ a + w) a b ∙ ap₂ (λ (p q : ℕ). p % 2 ^ b * 2 ^ a + q) (digits-div x h) (digits-mod x h)
-
-above-zeros : (x a b : ℕ) → x * 2 ^ a % 2 ^ (a + b) ≡ x % 2 ^ b * 2 ^ a
-above-zeros x a b = ap (λ (n : ℕ). n % 2 ^ (a + b)) (sym (add-zero (x * 2 ^ a))) ∙ joined x 0 a b (pow-pos a) ∙ add-zero (x % 2 ^ b * 2 ^ a)
-
--- ── bits that are turned ────────────────────────────────────────────────────────────────────
-
-pub turned-minus : (sign h y : ℕ) → sign ≢ 0 → turned sign h y ≡ 2 ^ h - 1 - y
-turned-minus zero h y n = absurd (n refl)
-turned-minus (suc s) h y n = refl
-
-pub turned-less : (sign h y : ℕ) → y < 2 ^ h → turned sign h y < 2 ^ h
-turned-less zero h y l = l
-turned-less (suc s) h y l = omega arith
-
--- all of a + b bits, of which q are the upper ones
-all-bits : (a b q : ℕ) → q < 2 ^ b → 2 ^ (a + b) ≡ (2 ^ b - 1 - q) * 2 ^ a + (q * 2 ^ a + 2 ^ a)
-all-bits a b q l =
-    let r : ℕ = 2 ^ b - 1 - q in
-    pow-add 2 a b ∙ mul-comm (2 ^ a) (2 ^ b) ∙ ap (λ (n : ℕ). n * 2 ^ a) {x = 2 ^ b} {y = r + (q + 1)} (omega arith)
-    ∙ omega (arith, add-mul r (q + 1) (2 ^ a), add-mul q 1 (2 ^ a))
-
--- two parts are turned apart
-turned-joined : (sign a b q w : ℕ) → q < 2 ^ b → w < 2 ^ a → turned sign (a + b) (q * 2 ^ a + w) ≡ turned sign b q * 2 ^ a + turned sign a w
-turned-joined zero a b q w l h = refl
-turned-joined (suc s) a b q w l h = omega (arith, all-bits a b q l)
-
--- the low ones of turned bits, and the high ones
-module _ (sign a b y : ℕ) (h : y < 2 ^ (a + b)) where
-  small : y % 2 ^ a < 2 ^ a
-  small = mod-lt y (pow-pos a)
-
-  turned-parts : turned sign (a + b) y ≡ turned sign b (y / 2 ^ a) * 2 ^ a + turned sign a (y % 2 ^ a)
-  turned-parts =
-      ap (turned sign (a + b)) (sym (div-add-mod' y (2 ^ a)))
-      ∙ turned-joined sign a b (y / 2 ^ a) (y % 2 ^ a) (shr-lt b a (subst (λ (n : ℕ). y < 2 ^ n) {x = a + b} {y = b + a} (omega arith) h)) small
-
-  turned-low : turned sign (a + b) y % 2 ^ a ≡ turned sign a (y % 2 ^ a)
-  turned-low = ap (λ (n : ℕ). n % 2 ^ a) turned-parts ∙ digits-mod (turned sign b (y / 2 ^ a)) (turned-less sign a (y % 2 ^ a) small)
-
-  turned-high : turned sign (a + b) y / 2 ^ a ≡ turned sign b (y / 2 ^ a)
-  turned-high = ap (λ (n : ℕ). n / 2 ^ a) turned-parts ∙ digits-div (turned sign b (y / 2 ^ a)) (turned-less sign a (y % 2 ^ a) small)
+use Rattle.down.proofs.TurnedBits.{split, fewer, higher, joined, above-zeros, turned-less, turned-joined, turned-low, turned-high}
 
 -- ── the bits of the scalar ──────────────────────────────────────────────────────────────────
 
@@ -101,7 +39,7 @@ shifted-lower u i j t =
 -- ── what was read ───────────────────────────────────────────────────────────────────────────
 
 -- `held` bits of u from place i down
-abbrev from : ℕ → ℕ → ℕ → ℕ
+abbrev pub from : ℕ → ℕ → ℕ → ℕ
 from u i held = shifted u i (held - 1) % 2 ^ held
 
 -- they are the highest of the bits, turned for a minus, and the next byte is the one below them
@@ -195,7 +133,7 @@ module _ {u L sign i at held bits : ℕ} (r : Reading u L sign i at held bits) w
   abbrev y : ℕ
   y = from u i held
 
-  held-less : y < 2 ^ held
+  pub held-less : y < 2 ^ held
   held-less = mod-lt (shifted u i (held - 1)) (pow-pos held)
 
   -- there is space below them
@@ -334,102 +272,3 @@ fill-read s sign b r {i} bytes h f g =
         ∙ sym (div-add-mod' (shifted u i (held - 1 + more)) (2 ^ more))
         ∙ ap₂ (λ (p q : ℕ). p * 2 ^ more + q) (shifted-above u i (held - 1) more) (sym word-bits))
         ∙ joined (shifted u i (held - 1)) w more held w-less
-
--- ── what the bits held tell ─────────────────────────────────────────────────────────────────
-
--- a number of n + 1 bits above c others that is folded
-module _ (n c z x : ℕ) (all : suc n + c ≡ 64) (few : z < 2 ^ suc n) (f : Folded (z * 2 ^ c) x) where
-  half-all : 2 ^ 63 ≡ 2 ^ n * 2 ^ c
-  half-all = ap (λ (k : ℕ). 2 ^ k) {x = 63} {y = n + c} (omega arith) ∙ pow-add 2 n c
-
-  all-all : 2 ^ 64 ≡ 2 ^ suc n * 2 ^ c
-  all-all = ap (λ (k : ℕ). 2 ^ k) {x = 64} {y = suc n + c} (omega arith) ∙ pow-add 2 (suc n) c
-
-  high-is : z * 2 ^ c / 2 ^ 63 ≡ z / 2 ^ n
-  high-is = ap₂ (λ (p q : ℕ). p / q) (mul-comm z (2 ^ c)) (half-all ∙ mul-comm (2 ^ n) (2 ^ c)) ∙ mul-div-mul-left z (2 ^ n) (pow-pos c)
-
-  fold-plus : z < 2 ^ n → x / 2 ^ c ≡ z
-  fold-plus l = ap (λ (k : ℕ). k / 2 ^ c) (f .0 (omega (arith, half-all, mul-lt-mul-of-pos-right l (pow-pos c)))) ∙ shl-shr z c
-
-  fold-minus : 2 ^ n ≤ z → x / 2 ^ c ≡ 2 ^ suc n - 1 - z
-  fold-minus l =
-      let q : ℕ = 2 ^ suc n - 1 - z in
-      let sum = f .1 (omega (arith, half-all, mul-le-mul-right (2 ^ c) l)) in
-      ap (λ (k : ℕ). k / 2 ^ c) {x = x} {y = q * 2 ^ c + (2 ^ c - 1)} (omega (arith, sum, all-all, all-bits c (suc n) z few, pow-add 2 c (suc n), mul-comm (2 ^ c) (2 ^ suc n), pow-pos c))
-      ∙ digits-div q (omega (arith, pow-pos c))
-
--- the bits below the one at place i, and its sign in the row
-pub record Seen (n u i x sign high : ℕ) : Type 0 where
-  pub bit : ℕ
-  pub ahead : Ahead n u i x bit
-  pub signs : Signs sign bit high
-
-seen-below : {u L sign i at n bits : ℕ} (x : ℕ) → Reading u L sign i at (suc n) bits → Folded bits x → Seen n u i (x / 2 ^ (63 - n)) sign (bits / 2 ^ 63)
-seen-below {u} {L} {sign} {i} {at} {n} {bits} x r f =
-    go sign (r .same ∙ ap (λ (k : ℕ). turned sign (suc n) y * 2 ^ k) (omega arith)) (leb (2 ^ n) y) (leb→le (2 ^ n) y) (nleb→lt (2 ^ n) y)
-  where
-    c : ℕ
-    c = 63 - n
-
-    y : ℕ
-    y = from u i (suc n)
-
-    is : y ≡ shifted u i n % 2 ^ suc n
-    is = ap (λ (k : ℕ). shifted u i k % 2 ^ suc n) (omega arith)
-
-    less : y < 2 ^ suc n
-    less = held-less r
-
-    twice : 2 ^ suc n ≡ 2 * 2 ^ n
-    twice = pow-succ' 2 n
-
-    all : suc n + c ≡ 64
-    all = omega (arith, r .few)
-
-    one : (z : ℕ) → 2 ^ n ≤ z → z < 2 ^ suc n → z / 2 ^ n ≡ 1
-    one z g l = div-eq-of-lt-le (2 ^ n) (omega arith) (omega (arith, twice))
-
-    go : (sign : ℕ) → bits ≡ turned sign (suc n) y * 2 ^ c → (t : Bool) → (T t → 2 ^ n ≤ y) → (T (not t) → y < 2 ^ n) → Seen n u i (x / 2 ^ c) sign (bits / 2 ^ 63)
-    go zero e true p q =
-        let g = subst (λ (k : ℕ). Folded k x) e f in
-        record {
-          bit = 1;
-          ahead = read-minus n u i (x / 2 ^ c) y is (p tt) (omega (arith, fold-minus n c y x all less g (p tt), less));
-          signs = rw (e, high-is n c y x all less g, one y (p tt) less) (λ z. refl);
-        }
-    go zero e false p q =
-        let g = subst (λ (k : ℕ). Folded k x) e f in
-        record {
-          bit = 0;
-          ahead = read-plus n u i (x / 2 ^ c) y is (q tt) (fold-plus n c y x all less g (q tt));
-          signs = rw (e, high-is n c y x all less g, div-eq-of-lt (q tt)) (λ z. refl);
-        }
-    go (suc s) e true p q =
-        let z : ℕ = 2 ^ suc n - 1 - y in
-        let g = subst (λ (k : ℕ). Folded k x) e f in
-        let some : z < 2 ^ suc n = turned-less (suc s) (suc n) y less in
-        let low : z < 2 ^ n = omega (arith, twice, p tt, less) in
-        record {
-          bit = 1;
-          ahead = read-minus n u i (x / 2 ^ c) y is (p tt) (omega (arith, fold-plus n c z x all some g low, less));
-          signs = rw (e, high-is n c z x all some g, div-eq-of-lt low) (minus-sign s 1 (omega arith));
-        }
-    go (suc s) e false p q =
-        let z : ℕ = 2 ^ suc n - 1 - y in
-        let g = subst (λ (k : ℕ). Folded k x) e f in
-        let some : z < 2 ^ suc n = turned-less (suc s) (suc n) y less in
-        let high : 2 ^ n ≤ z = omega (arith, twice, q tt) in
-        record {
-          bit = 0;
-          ahead = read-plus n u i (x / 2 ^ c) y is (q tt) (omega (arith, fold-minus n c z x all some g high, less));
-          signs = rw (e, high-is n c z x all some g, one z high some) (minus-sign s 0 (omega arith));
-        }
-
-pub seen : {u L sign i at held bits : ℕ} (x : ℕ) → Reading u L sign i at held bits → Folded bits x → Seen (held - 1) u i (x / 2 ^ (64 - held)) sign (bits / 2 ^ 63)
-seen {u} {L} {sign} {i} {at} {held} {bits} x r f = go held r
-  where
-    go : (h : ℕ) → Reading u L sign i at h bits → Seen (h - 1) u i (x / 2 ^ (64 - h)) sign (bits / 2 ^ 63)
-    go zero r = absurd (omega (arith, r .some))
-    go (suc n) r =
-        subst (λ (k : ℕ). Seen k u i (x / 2 ^ (64 - suc n)) sign (bits / 2 ^ 63)) {x = n} {y = suc n - 1} (omega arith)
-        (subst (λ (k : ℕ). Seen n u i (x / 2 ^ k) sign (bits / 2 ^ 63)) {x = 63 - n} {y = 64 - suc n} (omega arith) (seen-below x r f))

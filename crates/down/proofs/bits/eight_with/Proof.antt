@@ -2,7 +2,7 @@
 use mathlib.Core.Path.{sym}
 use native.Mathlib.Omega.{arith}
 use borrow.Author.Needs.{needs}
-use Rattle.down.proofs.Reading.{turned-minus}
+use Rattle.down.proofs.TurnedBits.{turned-minus}
 use Rattle.down.proofs.bits.eight_with.Statement.{statement}
 use Rattle.down.proofs.bits.eight_with.Tie as tie
 

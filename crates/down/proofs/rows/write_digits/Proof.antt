@@ -16,8 +16,8 @@ use Rattle.down.specs.declared.window.Window.{Window}
 use Rattle.down.specs.Body.Window.{sizeOf, WindowOf}
 use Rattle.down.specs.Down.{beyond}
 use Rattle.down.proofs.DownLoop.{DigitTurn, skipped, digit-turn}
-use Rattle.down.proofs.HeldBits.{length-few, length-many, window-held}
-use Rattle.down.proofs.Reading.{Reading, Seen, start-reading, space, fill-read, less-read, seen}
+use Rattle.down.proofs.HeldBits.{Seen, seen, length-few, length-many, window-held}
+use Rattle.down.proofs.Reading.{Reading, start-reading, space, fill-read, less-read}
 use Rattle.down.proofs.Turns.{Turn, start, light, out-length, finish}
 use Rattle.down.proofs.WindowSize.{width-few, chosen}
 use Rattle.down.proofs.rows.write_digits.Statement.{statement}

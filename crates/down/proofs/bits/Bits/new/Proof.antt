@@ -2,7 +2,7 @@
 use mathlib.Core.Path.{refl, sym, ap}
 use Prim.Native.Nat.{ℕ, _*_, _^_}
 use Rattle.down.specs.Body.Ahead.{turned}
-use Rattle.down.proofs.Reading.{turned-minus}
+use Rattle.down.proofs.TurnedBits.{turned-minus}
 use Rattle.down.proofs.bits.Bits.new.Statement.{statement}
 use Rattle.down.proofs.bits.Bits.new.Tie as tie
 
