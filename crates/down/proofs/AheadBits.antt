@@ -1,9 +1,9 @@
 -- What the bits ahead of place i tell: the bits at and below it that are equal, what a window below those is worth, and how many places
 -- it takes. The n bits below the one at place i are read as one number x, each turned where that one is set.
-use mathlib.Core.Path.{_≡_, refl, sym, ap, ap₂, subst, _∙_}
+use mathlib.Core.Path.{_≡_, refl, sym, ap, subst, _∙_}
 use mathlib.Core.Logic.{_≢_}
 use Prim.Native.Nat.{ℕ, zero, suc, _+_, _*_, _-_, _/_, _%_, _^_, _≤_, _<_}
-use native.Mathlib.Nat.{mul-add, mul-assoc, mul-comm, div-div-eq-div-mul, mul-div-mul-left, add-mul-div-left, mul-div-cancel-left, div-add-mod, mod-lt, pow-suc, div-eq-of-lt, div-eq-of-lt-le, lt-of-mul-lt-mul-left, add-comm}
+use native.Mathlib.Nat.{mul-add, mul-assoc, mul-comm, add-mul-div-left, mul-div-cancel-left, div-add-mod, mod-lt, pow-suc, div-eq-of-lt, div-eq-of-lt-le, lt-of-mul-lt-mul-left, add-comm}
 use native.Mathlib.Omega.{arith}
 use lib.IntN.{pos, natAbs}
 use lib.Pow.{pow-add, pow-pos, pow-mono}
@@ -17,7 +17,7 @@ use Rattle.digits.specs.Scalar.Length.{below-length}
 use Rattle.forms.specs.Residue.{width}
 use Rattle.down.specs.Body.Window.{sizeOf, widthOf}
 use Rattle.down.specs.Down.{under, worth, taken}
-use Rattle.down.specs.Down.Bits.{shifted, shifted-up, under-is, near, near-shifted, near-down, worth-near}
+use Rattle.down.specs.Down.Bits.{shifted, shifted-up, shifted-above, shifted-place, under-is, near, near-shifted, near-down, worth-near}
 use Rattle.down.proofs.WindowSize.{at-least}
 
 -- S is y + x, or y − 1 − x where the bits are turned
@@ -48,14 +48,6 @@ read-minus n u i x y e l f =
     let S : ℕ = shifted u i n in
     let q : ℕ = S / 2 ^ suc n in
     record { few = omega (arith, pow-suc 2 n); bit = omega arith; above = q + 1; reads = omega (arith, div-add-mod S (2 ^ suc n), mul-add (2 ^ suc n) q 1) }
-
--- the lowest j bits are left away
-shifted-less : (u i j k : ℕ) → shifted u i (j + k) / 2 ^ j ≡ shifted u i k
-unfolding shifted
-shifted-less u i j k =
-    div-div-eq-div-mul (2 ^ (j + k) * u) (2 ^ i) (2 ^ j)
-    ∙ ap₂ (λ (a b : ℕ). a / b) (ap (λ (n : ℕ). n * u) (pow-add 2 j k) ∙ mul-assoc (2 ^ j) (2 ^ k) u) (mul-comm (2 ^ i) (2 ^ j))
-    ∙ mul-div-mul-left (2 ^ k * u) (2 ^ i) (pow-pos j)
 
 parts-less : (t S Y x e : ℕ) → Reads t S (2 ^ e * Y) x → Reads t (S / 2 ^ e) Y (x / 2 ^ e)
 parts-less zero S Y x e r =
@@ -89,11 +81,11 @@ parts-less (suc t) S Y x e r = omega (arith, low, high)
 first : (n u i x t h k : ℕ) → k ≤ n → Reads t (shifted u i n) (2 ^ suc n * h) x → Reads t (shifted u i k) (2 ^ suc k * h) (x / 2 ^ (n - k))
 first n u i x t h k l r =
     let e : ℕ = n - k in
-    let whole : e + k ≡ n = omega arith in
+    let whole : k + e ≡ n = omega arith in
     let power : 2 ^ suc n * h ≡ 2 ^ e * (2 ^ suc k * h) =
     ap (λ (p : ℕ). p * h) (ap (λ (j : ℕ). 2 ^ j) {x = suc n} {y = e + suc k} (omega arith) ∙ pow-add 2 e (suc k)) ∙ mul-assoc (2 ^ e) (2 ^ suc k) h
     in
-    let less : shifted u i n / 2 ^ e ≡ shifted u i k = ap (λ (j : ℕ). shifted u i j / 2 ^ e) (sym whole) ∙ shifted-less u i e k in
+    let less : shifted u i n / 2 ^ e ≡ shifted u i k = ap (λ (j : ℕ). shifted u i j / 2 ^ e) (sym whole) ∙ shifted-above u i k e in
     subst (λ (y : ℕ). Reads t y (2 ^ suc k * h) (x / 2 ^ e)) less (parts-less t (shifted u i n) (2 ^ suc k * h) x e (subst (λ (y : ℕ). Reads t (shifted u i n) y x) power r))
 
 -- below place 0 there is no bit
@@ -105,11 +97,6 @@ under-below u i k h = go (k - i) (omega arith) (under-is u i k ∙ ap (λ (n : �
     go (suc n) p e = omega (arith, e, power-step n u)
 
 -- so many places down is so many bits further
-shifted-place : (u i s w : ℕ) → s ≤ i → shifted u (i - s) w ≡ shifted u i (s + w)
-unfolding shifted
-shifted-place u i s w h =
-    sym (ap₂ (λ (a b : ℕ). a / b) (ap (λ (n : ℕ). n * u) (pow-add 2 s w) ∙ mul-assoc (2 ^ s) (2 ^ w) u) (power-split s i h) ∙ mul-div-mul-left (2 ^ w * u) (2 ^ (i - s)) (pow-pos s))
-
 pub under-place : (u i s k : ℕ) → s ≤ i → under u (i - s) k ≡ under u i (s + k)
 under-place u i s k h = under-is u (i - s) k ∙ ap (λ (n : ℕ). n % 2) (shifted-place u i s k h) ∙ sym (under-is u i (s + k))
 

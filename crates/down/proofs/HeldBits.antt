@@ -140,7 +140,7 @@ module _ (y c : ℕ) where
       let over : ¬ (bitLength x < k) = λ g. omega (arith, below-length x, pow-mono {i = bitLength x} {j = k - 1} (omega arith)) in
       omega arith
 
-  pub length-less : 1 ≤ bitLength x → bitLength y ≡ c + bitLength x
+  length-less : 1 ≤ bitLength x → bitLength y ≡ c + bitLength x
   length-less h =
       let b : ℕ = bitLength y in
       let low : bitLength x ≤ b - c = length-few (b - c) (omega arith) in

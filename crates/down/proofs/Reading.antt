@@ -1,40 +1,22 @@
 -- The bits that were read and not yet taken: those of the scalar from a place down, turned for a minus, and zeros below them. More bytes go
 -- below them, and the highest are taken off.
-use mathlib.Core.Path.{_≡_, refl, sym, ap, ap₂, subst, _∙_}
+use mathlib.Core.Path.{_≡_, sym, ap, ap₂, subst, _∙_}
 use mathlib.Core.Bool.{Bool, true, false, not}
-use mathlib.Core.List.{List, [], _∷_, _++_}
-use Prim.Native.Nat.{ℕ, zero, suc, _+_, _*_, _-_, _/_, _%_, _^_, _≤_, _<_}
-use native.Mathlib.Nat.{mul-comm, mul-assoc, add-mul, mul-div-mul-left, mul-le-mul-right, div-div-eq-div-mul, add-mul-mod-self-left, mod-lt, mod-eq-of-lt, div-eq-of-lt, div-add-mod'}
+use mathlib.Core.List.{List, _++_}
+use Prim.Native.Nat.{ℕ, _+_, _*_, _-_, _/_, _%_, _^_, _≤_, _<_}
+use native.Mathlib.Nat.{mul-assoc, add-mul, mul-le-mul-right, add-mul-mod-self-left, mod-lt, mod-eq-of-lt, div-eq-of-lt, div-add-mod'}
 use native.Mathlib.Omega.{arith}
 use lib.Dec.{T, leb, leb→le, nleb→lt}
-use lib.ListN.{length, getD, take, replicate, length-append}
+use lib.ListN.{length, getD, take, replicate, length-append, List·getD-eq-default}
 use lib.Pow.{pow-add, pow-pos, shr-lt}
 use Rattle.digits.specs.Buffer.Zeros.{padded-at}
 use Rattle.digits.specs.Scalar.{Bytes, little, scalar}
 use Rattle.digits.specs.Scalar.Value.{scalar-below, bytes-power}
 use Rattle.down.specs.declared.bits.Bits.{Bits}
 use Rattle.down.specs.Body.Ahead.{four, eight, turned, room, Filled}
-use Rattle.down.specs.Down.Bits.{shifted, shifted-up}
+use Rattle.down.specs.Down.Bits.{shifted, shifted-up, shifted-above, shifted-lower}
 use Rattle.down.proofs.FourBytes.{scalar-append, first-bytes, four-more}
 use Rattle.down.proofs.TurnedBits.{split, fewer, higher, joined, above-zeros, turned-less, turned-joined, turned-low, turned-high}
-
--- ── the bits of the scalar ──────────────────────────────────────────────────────────────────
-
--- further up there are fewer
-shifted-above : (u i j a : ℕ) → shifted u i (j + a) / 2 ^ a ≡ shifted u i j
-unfolding shifted
-shifted-above u i j a =
-    div-div-eq-div-mul (2 ^ (j + a) * u) (2 ^ i) (2 ^ a)
-    ∙ ap₂ (λ (x y : ℕ). x / y)
-    (ap (λ (x : ℕ). x * u) (pow-add 2 j a ∙ mul-comm (2 ^ j) (2 ^ a)) ∙ mul-assoc (2 ^ a) (2 ^ j) u)
-    (mul-comm (2 ^ i) (2 ^ a))
-    ∙ mul-div-mul-left (2 ^ j * u) (2 ^ i) (pow-pos a)
-
--- from a lower place down there are fewer
-shifted-lower : (u i j t : ℕ) → shifted u (t + i) (t + j) ≡ shifted u i j
-unfolding shifted
-shifted-lower u i j t =
-    ap₂ (λ (x y : ℕ). x * u / y) (pow-add 2 t j) (pow-add 2 t i) ∙ ap (λ (x : ℕ). x / (2 ^ t * 2 ^ i)) (mul-assoc (2 ^ t) (2 ^ j) u) ∙ mul-div-mul-left (2 ^ j * u) (2 ^ i) (pow-pos t)
 
 -- ── what was read ───────────────────────────────────────────────────────────────────────────
 
@@ -77,7 +59,7 @@ followed-bytes s bytes i = rw (padded-at s 4 i) (bytes i)
 same-four : (s : List ℕ) (p : ℕ) → four (followed s) p ≡ four s p
 same-four s p = rw (padded-at s 4 p, padded-at s 4 (p + 1), padded-at s 4 (p + 2), padded-at s 4 (p + 3))
 
-pub four-small : (s : List ℕ) (at : ℕ) → Bytes s → four s at < 2 ^ 32
+four-small : (s : List ℕ) (at : ℕ) → Bytes s → four s at < 2 ^ 32
 four-small s at bytes = omega (arith, bytes at, bytes (at + 1), bytes (at + 2), bytes (at + 3))
 
 -- the four bytes from `at` on are the 32 bits below place 8 (L − at)
@@ -94,15 +76,12 @@ word-within s at q bytes e =
     ∙ mod-eq-of-lt (four-small s at bytes))
 
 -- below place 0 there are zeros
-past-end : (s : List ℕ) (j : ℕ) → length s ≤ j → getD s j 0 ≡ 0
-past-end [] j h = refl
-past-end (b ∷ s) zero h = absurd (omega arith)
-past-end (b ∷ s) (suc j) h = past-end s j (omega arith)
-
 word-past : (s : List ℕ) (at : ℕ) → length s ≤ at → four s at ≡ 0
-word-past s at h = omega (arith, past-end s at (omega arith), past-end s (at + 1) (omega arith), past-end s (at + 2) (omega arith), past-end s (at + 3) (omega arith))
+word-past s at h =
+    let past : (j : ℕ) → length s ≤ j → getD s j 0 ≡ 0 = λ j l. List·getD-eq-default s 0 {n = j} l in
+    omega (arith, past at (omega arith), past (at + 1) (omega arith), past (at + 2) (omega arith), past (at + 3) (omega arith))
 
-pub word-is : (s : List ℕ) (i at held : ℕ) → Bytes s → 1 ≤ held → i + 1 + 8 * at ≡ held + 8 * length s → four s at ≡ shifted (scalar s) i (held - 1 + 32) % 2 ^ 32
+word-is : (s : List ℕ) (i at held : ℕ) → Bytes s → 1 ≤ held → i + 1 + 8 * at ≡ held + 8 * length s → four s at ≡ shifted (scalar s) i (held - 1 + 32) % 2 ^ 32
 unfolding shifted
 word-is s i at held bytes some level = go (leb at (length s)) (leb→le at (length s)) (nleb→lt at (length s))
   where

@@ -26,13 +26,13 @@ use Rattle.down.specs.Body.Window.{sizeOf, widthOf, WindowOf}
 use Rattle.down.specs.Down.{beyond}
 
 -- the w top bits of x
-pub top-bits : (x b w : ℕ) → b ≡ bitLength x → w ≤ b → x / 2 ^ (b - w) < 2 ^ w
+top-bits : (x b w : ℕ) → b ≡ bitLength x → w ≤ b → x / 2 ^ (b - w) < 2 ^ w
 top-bits x b w e l =
     div-lt-iff-lt-mul (pow-pos (b - w)) .1
     (rw (sym (pow-add 2 w (b - w))) (subst (λ (k : ℕ). x < 2 ^ k) {x = bitLength x} {y = w + (b - w)} (omega arith) (below-length x)))
 
 -- no size is above 2^(w−1)
-pub size-most : (x b w : ℕ) → b ≡ bitLength x → 1 ≤ w → w ≤ b → sizeOf x b w ≤ 2 ^ (w - 1)
+size-most : (x b w : ℕ) → b ≡ bitLength x → 1 ≤ w → w ≤ b → sizeOf x b w ≤ 2 ^ (w - 1)
 size-most x b w e h l =
     let twice : 2 ^ w ≡ 2 * 2 ^ (w - 1) = ap (λ (k : ℕ). 2 ^ k) {x = w} {y = suc (w - 1)} (omega arith) ∙ pow-succ' 2 (w - 1) in
     omega (arith, top-bits x b w e l)
@@ -42,7 +42,7 @@ pub at-least : (x b k : ℕ) → b ≡ bitLength x → k < b → 2 ^ k ≤ x
 at-least x b k e h = let over : ¬ (x < 2 ^ k) = λ l. omega (arith, length-least x k l) in omega arith
 
 -- the size is not 0
-pub size-some : (x b w : ℕ) → b ≡ bitLength x → 1 ≤ w → w ≤ b → 1 ≤ sizeOf x b w
+size-some : (x b w : ℕ) → b ≡ bitLength x → 1 ≤ w → w ≤ b → 1 ≤ sizeOf x b w
 size-some x b w e h l =
     let one : 1 ≤ x / 2 ^ (b - w) = le-div-iff-mul-le (pow-pos (b - w)) .1 (omega (arith, at-least x b (b - w) e (omega arith))) in
     omega arith
@@ -85,7 +85,7 @@ module _ (m x b most : ℕ) (one : 1 ≤ m) (few : m ≤ 31) (is : b ≡ bitLeng
     pub half-less : w ≤ 6 → x / 2 ^ low < 64
     half-less l = omega (arith, ap (λ (k : ℕ). x / 2 ^ k) low-is, top-bits x b w is (omega arith), pow-mono {i = w} {j = 6} l)
 
-    pub half-is : (n : ℕ) → n ≡ (x / 2 ^ low + 1) / 2 → n ≡ sizeOf x b w
+    half-is : (n : ℕ) → n ≡ (x / 2 ^ low + 1) / 2 → n ≡ sizeOf x b w
     half-is n e = e ∙ ap (λ (k : ℕ). (x / 2 ^ k + 1) / 2) low-is
 
     pub half-some : 1 ≤ w → (n : ℕ) → n ≡ (x / 2 ^ low + 1) / 2 → 0 < n

@@ -7,7 +7,7 @@ use mathlib.Core.Bool.{Bool, true, false, not}
 use lib.Dec.{T, leb, leb→le, nleb→lt}
 use native.Mathlib.Numerals.{sub-one}
 use native.Mathlib.Omega.{arith}
-use lib.Pow.{pow-pos}
+use lib.Pow.{pow-add, pow-pos}
 use lib.IntN.{ℤ, pos, negsuc, _-ℤ_}
 use Rattle.digits.specs.Integer.{up, down}
 use Rattle.digits.specs.Integer.Parts.{difference}
@@ -42,11 +42,27 @@ under-is u i j = go (pos i -ℤ pos j) (difference (pos i) (pos j))
         the-power : (n : ℕ) → 0 + (0 + j) ≡ (i + 0) + suc n → j - i ≡ suc n
         the-power n e = omega arith
 
--- a place further down is one more bit
-pub shifted-half : (u i j : ℕ) → shifted u i (suc j) / 2 ≡ shifted u i j
+-- the lowest a bits are left away
+pub shifted-above : (u i j a : ℕ) → shifted u i (j + a) / 2 ^ a ≡ shifted u i j
 unfolding shifted
-shifted-half u i j =
-    div-div-eq-div-mul (2 ^ suc j * u) (2 ^ i) 2 ∙ ap₂ (λ (a b : ℕ). a / b) (power-step j u) (mul-comm (2 ^ i) 2) ∙ mul-div-mul-left (2 ^ j * u) (2 ^ i) (omega arith)
+shifted-above u i j a =
+    div-div-eq-div-mul (2 ^ (j + a) * u) (2 ^ i) (2 ^ a)
+    ∙ ap₂ (λ (x y : ℕ). x / y)
+    (ap (λ (x : ℕ). x * u) (pow-add 2 j a ∙ mul-comm (2 ^ j) (2 ^ a)) ∙ mul-assoc (2 ^ a) (2 ^ j) u)
+    (mul-comm (2 ^ i) (2 ^ a))
+    ∙ mul-div-mul-left (2 ^ j * u) (2 ^ i) (pow-pos a)
+
+pub shifted-half : (u i j : ℕ) → shifted u i (suc j) / 2 ≡ shifted u i j
+shifted-half u i j = ap (λ (n : ℕ). shifted u i n / 2) {x = suc j} {y = j + 1} (omega arith) ∙ shifted-above u i j 1
+
+-- so many places down is so many bits further
+pub shifted-lower : (u i j t : ℕ) → shifted u (t + i) (t + j) ≡ shifted u i j
+unfolding shifted
+shifted-lower u i j t =
+    ap₂ (λ (x y : ℕ). x * u / y) (pow-add 2 t j) (pow-add 2 t i) ∙ ap (λ (x : ℕ). x / (2 ^ t * 2 ^ i)) (mul-assoc (2 ^ t) (2 ^ j) u) ∙ mul-div-mul-left (2 ^ j * u) (2 ^ i) (pow-pos t)
+
+pub shifted-place : (u i s w : ℕ) → s ≤ i → shifted u (i - s) w ≡ shifted u i (s + w)
+shifted-place u i s w h = sym (shifted-lower u (i - s) w s) ∙ ap (λ (n : ℕ). shifted u n (s + w)) {x = s + (i - s)} {y = i} (omega arith)
 
 -- the bits of n places below i
 pub bits-are : (u i n : ℕ) → bits u i n + 2 ^ n * shifted u i 0 ≡ shifted u i n

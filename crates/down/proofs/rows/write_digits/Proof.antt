@@ -164,8 +164,7 @@ filled-requires c κs =
     (omega (arith, r .level, few-places (looped z), asked (looped z) .pre .0 .0, c .if2 .taken), (c .if2 .taken, space r))
 
 loop-less : tie.Need-loop-less Inv-loop μ-loop
-loop-less c =
-    let z = c .before .before .before .before .before in omega (arith, c .filled .ensures .1 .0, c .before .if2 .taken)
+loop-less c = omega (arith, c .filled .ensures .1 .0, c .before .if2 .taken)
 
 loop-again : tie.Need-loop-again Inv-loop μ-loop
 loop-again c =
