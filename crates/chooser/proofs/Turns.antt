@@ -10,6 +10,7 @@ use lib.IntN.{pos}
 use lib.ListN.{length, getD, drop}
 use lib.Seq.{drop-cons}
 use Rattle.digits.specs.Row as Rows
+use Rattle.digits.specs.Two.Paired.{paired-length}
 use Rattle.forms.specs.Row.{row}
 use Rattle.sheet.specs.declared.Plan.{Plan}
 use Rattle.sheet.specs.declared.Plan.the-variants.{J, I}
@@ -19,7 +20,7 @@ use Rattle.sheet.specs.Plan.{slots, isWithin, tableAdditions, tableDoublings}
 use Rattle.sheet.specs.Sound.{Window}
 use Rattle.written.specs.Promise.{written-cost, written-doublings}
 use Rattle.written.specs.Valid.{Valid, forJ, forI}
-use Rattle.written.specs.Written.Columns.{paired-weight, paired-length}
+use Rattle.written.specs.Written.Columns.{paired-weight}
 use Rattle.written.specs.Written.{digits}
 use Rattle.chooser.specs.Cheapest.{cheapestPlan, keyWith, key, plans, within}
 use Rattle.chooser.specs.Body.Choice.{planWeight, planPlaces, costKey}

@@ -6,6 +6,7 @@ use native.Mathlib.Numerals.{add-one}
 use native.Mathlib.Omega.{arith}
 use lib.ListN.{length, getD, set, take, replicate, length-map}
 use lib.Seq.{set-at, take-suc, take-all, length-take-le}
+use Rattle.digits.specs.Buffer.Mapped.{map-at}
 use Rattle.sheet.specs.Plan.{odds}
 use Rattle.chooser.specs.Cheapest.{windows}
 use Rattle.chooser.specs.declared.sizes.Size.{Size}
@@ -21,11 +22,6 @@ length-odds : (d n : ℕ) → length (odds d n) ≡ n
 unfolding odds
 length-odds d zero = refl
 length-odds d (suc n) = ap suc (length-odds (2 + d) n)
-
-map-at : {A : Type 0} (f : ℕ → A) (d : A) (l : List ℕ) (i : ℕ) → i < length l → getD (map f l) i d ≡ f (getD l i 0)
-map-at f d [] i h = absurd (omega arith)
-map-at f d (x ∷ l) zero h = refl
-map-at f d (x ∷ l) (suc i) h = map-at f d l i (omega arith)
 
 -- of the numbers of sizes, two are those of each
 numbers-length : (ss : List Size) → length (numbers ss) ≡ 2 * length ss
@@ -54,7 +50,7 @@ module _ (limit k : ℕ) where
   unfolding rowSizes
   sizes-at i h =
       let e : 1 + 2 * i ≡ 2 * i + 1 = omega arith in
-      let at = map-at (rowSize limit k) none windows i (omega (arith, length-odds 1 16)) ∙ ap (rowSize limit k) (getD-odds 1 16 i h ∙ e) in
+      let at = map-at (rowSize limit k) windows i 0 none (omega (arith, length-odds 1 16)) ∙ ap (rowSize limit k) (getD-odds 1 16 i h ∙ e) in
       let r = numbers-at (map (rowSize limit k) windows) i in
       (r .0 ∙ ap (λ (s : Size). s .places) at, r .1 ∙ ap (λ (s : Size). s .weight) at)
 

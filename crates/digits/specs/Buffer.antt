@@ -1,6 +1,7 @@
 -- The digits that stand in buffers, a byte each, at the places below a length.
 pub mod Read
 pub mod Zeros
+pub mod Mapped
 use mathlib.Core.List.{List, map}
 use Prim.Native.Nat.{ℕ}
 use lib.IntN.{ℤ}

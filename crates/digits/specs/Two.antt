@@ -1,5 +1,6 @@
 -- Columns of two rows: the digits of k, which go with P, over those of l, which go with Q.
 pub mod Sign
+pub mod Paired
 use mathlib.Core.Path.{_≡_, refl, sym, ap}
 use mathlib.Core.Logic.{_≢_, ⊎-elim}
 use mathlib.Core.Bool.{Bool, true, false, not, _&&_}

@@ -6,7 +6,7 @@ use mathlib.Core.List.{List, _∷_, _++_, map}
 use Prim.Native.Nat.{ℕ, zero, suc, _+_, _-_, _*_, _≤_, _<_, max}
 use native.Mathlib.Omega.{arith}
 use lib.IntN.{ℤ, pos}
-use lib.ListN.{length, drop, replicate, length-append, length-map, length-replicate}
+use lib.ListN.{length, drop, replicate}
 use borrow.Author.Tests.{le-leb}
 use Rattle.digits.specs.Buffer.{rowBelow, columnsBelow}
 use Rattle.digits.specs.Buffer.Read.{columns-read}
@@ -20,10 +20,12 @@ use Rattle.digits.specs.Scalar.Signed.{scalar-size, signed-bounded}
 use Rattle.digits.specs.Scalar.Sized.{both}
 use Rattle.digits.specs.Scalar.Value.{length-bytes}
 use Rattle.digits.specs.Two.{Column, P, Q, two, paired}
+use Rattle.digits.specs.Two.Paired.{paired-length}
 use Rattle.forms.specs.Joint.{joint}
 use Rattle.forms.specs.Joint.Value.{joint-small}
 use Rattle.forms.specs.Row as Row
 use Rattle.recode.specs.Call.{roomy, placesWritten, weightWritten, wroteRow, wroteColumns, filled, left, answerWith, bufferWith, jointAnswer, jointBuffer}
+use Rattle.recode.specs.Call.Lent.{filled-long}
 use Rattle.recode.specs.declared.answer.Recoded.{Recoded}
 use Rattle.sheet.specs.declared.Plan.{Plan}
 use Rattle.sheet.specs.declared.Plan.the-variants.{J, I}
@@ -33,7 +35,7 @@ use Rattle.sheet.specs.Questions.Planned.{window-of}
 use Rattle.written.specs.Makes.{Makes}
 use Rattle.written.specs.Valid.{Valid}
 use Rattle.written.specs.Written.{digits, sheetOf}
-use Rattle.written.specs.Written.Columns.{paired-length, paired-weight}
+use Rattle.written.specs.Written.Columns.{paired-weight}
 use Rattle.writer.specs.declared.rows.Rows.{Rows}
 use Rattle.writer.specs.Rows.{rowBy}
 use Rattle.writer.specs.Rows.Made.{rows-kept}
@@ -90,11 +92,6 @@ module _ {plan : Plan} (k l : ℤ) {p q : List ℕ} {cs : List Column} {places c
       subst (λ (ds : List Column). (a ≡ Writing.wroteColumns plan ds k l) × (after ≡ sheetOf plan ds k l ++ drop (length (sheetOf plan ds k l)) before)) (standing .columns)
 
 -- ── two filled buffers ──────────────────────────────────────────────────────────────────────
-
--- a filled buffer is no shorter than it was
-filled-long : (ds : List ℤ) (buffer : List ℕ) (n : ℕ) → n ≤ length buffer → n ≤ length (filled ds buffer)
-filled-long ds buffer n h =
-    omega (arith, length-append (map byteOf ds) (replicate (length buffer - length ds) 0), length-map ds byteOf, length-replicate {A = ℕ} (length buffer - length ds) 0)
 
 -- a digit of a window is read back from its byte
 digit-read : {m : ℕ} {d : ℤ} → m < 128 → Digit m d → signed (byteOf d) ≡ d

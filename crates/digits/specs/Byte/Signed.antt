@@ -1,9 +1,12 @@
--- The digit of a byte, that the byte of a digit is read back as the digit, and the byte of a negated digit. Assumes nothing.
-use mathlib.Core.Path.{_≡_, ap, _∙_}
+-- The digit of a byte; that the byte of a digit is read back as the digit, and the digit of a byte has that byte; and the byte of a negated
+-- digit. Assumes nothing.
+use mathlib.Core.Path.{_≡_, refl, ap, _∙_}
+use mathlib.Core.Bool.{Bool, true, false}
 use Prim.Native.Nat.{ℕ, suc, _-_, _%_, _≤_, _<_}
 use native.Mathlib.Omega.{arith}
+use lib.Dec.{ltb}
 use lib.IntN.{ℤ, pos, negsuc, negℤ, natAbs}
-use borrow.Author.Tests.{lt-ltb, le-ltb}
+use borrow.Author.Tests.{ltb-true, ltb-false, lt-ltb, le-ltb}
 use Rattle.digits.specs.Byte.{byteOf, turned, signed}
 use Rattle.digits.specs.Integer.Sign.{rem-negated}
 
@@ -23,6 +26,19 @@ signed-byte (negsuc n) h =
     let e : n % 256 ≡ n = omega arith in
     let f : 255 - (256 - suc n) ≡ n = omega arith in
     ap (λ (m : ℕ). signed (256 - suc m)) e ∙ signed-minus (256 - suc n) (omega arith) ∙ ap negsuc f
+
+-- the digit of a byte has that byte
+own-byte : (b : ℕ) → b < 256 → (t : Bool) → ltb b 128 ≡ t → byteOf (signed b) ≡ b
+unfolding byteOf
+own-byte b h true e =
+    let plain : b % 256 ≡ b = omega arith in ap byteOf (signed-plain b (ltb-true b 128 e)) ∙ plain
+own-byte b h false e =
+    let from : 128 ≤ b = ltb-false b 128 e in
+    let minus : 256 - suc ((255 - b) % 256) ≡ b = omega arith in
+    ap byteOf (signed-minus b from) ∙ minus
+
+pub byte-signed : (b : ℕ) → b < 256 → byteOf (signed b) ≡ b
+byte-signed b h = own-byte b h (ltb b 128) refl
 
 -- a negated digit has the turned byte
 pub byte-negated : (d : ℤ) → byteOf (negℤ d) ≡ turned (byteOf d)

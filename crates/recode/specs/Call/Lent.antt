@@ -1,12 +1,18 @@
--- Lending the first places of a cleared buffer: they are cleared too, and what is filled there fills the whole buffer. Assumes nothing.
+-- A filled buffer is no shorter than it was; and lending the first places of a cleared buffer: they are cleared too, and what is filled
+-- there fills the whole buffer. Assumes nothing.
 use mathlib.Core.Path.{_≡_, sym, ap, _∙_}
-use mathlib.Core.List.{List, _++_, append-assoc}
+use mathlib.Core.List.{List, _++_, map, append-assoc}
 use Prim.Native.Nat.{ℕ, _+_, _-_, _≤_}
 use native.Mathlib.Omega.{arith}
 use lib.IntN.{ℤ}
-use lib.ListN.{length, take, drop, replicate, length-replicate, replicate-append-replicate}
+use lib.ListN.{length, take, drop, replicate, length-append, length-map, length-replicate, replicate-append-replicate}
+use Rattle.digits.specs.Byte.{byteOf}
 use Rattle.digits.specs.Buffer.Zeros.{take-zeros, drop-zeros}
 use Rattle.recode.specs.Call.{filled}
+
+pub filled-long : (ds : List ℤ) (buffer : List ℕ) (n : ℕ) → n ≤ length buffer → n ≤ length (filled ds buffer)
+filled-long ds buffer n h =
+    omega (arith, length-append (map byteOf ds) (replicate (length buffer - length ds) 0), length-map ds byteOf, length-replicate {A = ℕ} (length buffer - length ds) 0)
 
 -- the first k places of a cleared buffer
 module _ (out₀ out : List ℕ) (k : ℕ) (cleared : out ≡ replicate (length out₀) 0) (h : k ≤ length out₀) where

@@ -4,7 +4,7 @@ use mathlib.Core.Path.{_≡_, refl, sym, ap, subst, _∙_}
 use mathlib.Core.Logic.{_≢_}
 use mathlib.Core.Bool.{Bool, true, false, not}
 use mathlib.Core.List.{List, [], _∷_}
-use Prim.Native.Nat.{ℕ, zero, suc, _+_, _≤_, _<_, max}
+use Prim.Native.Nat.{ℕ, suc, _+_, _≤_, _<_}
 use native.Mathlib.Omega.{arith}
 use lib.Dec.{T, leb}
 use lib.IntN.{ℤ, pos, _+ℤ_, natAbs}
@@ -15,7 +15,8 @@ use Rattle.digits.specs.Scalar.{bitLength}
 use Rattle.digits.specs.Row.{value, none, Over, empty, more}
 use Rattle.digits.specs.Row as Rows
 use Rattle.digits.specs.Column.{row}
-use Rattle.digits.specs.Two.{Column, P, Q, blank, blank-digit, blankColumn}
+use Rattle.digits.specs.Two.{Column, P, Q, blank, blank-digit, paired}
+use Rattle.digits.specs.Two.Paired.{paired-length, paired-at}
 use Rattle.forms.specs.Joint.{Topped}
 use Rattle.forms.specs.Joint.Length.{joint-length}
 use Rattle.forms.specs.Joint.Negated.{joint-size}
@@ -31,7 +32,6 @@ use Rattle.sheet.specs.Plan.{point}
 use Rattle.written.specs.Makes.{Makes}
 use Rattle.written.specs.Valid.{Valid, forJ, forI, window-positive}
 use Rattle.written.specs.Written.{digits}
-use Rattle.digits.specs.Two.{paired}
 
 -- ── two rows over the same places ───────────────────────────────────────────────────────────
 
@@ -66,23 +66,6 @@ paired-over [] [] empty empty = (empty, empty)
 paired-over (a ∷ xs) [] (more d r) empty = let t = paired-over xs [] r empty in (more d (t .0), more none (t .1))
 paired-over [] (b ∷ ys) empty (more d r) = let t = paired-over [] ys empty r in (more none (t .0), more d (t .1))
 paired-over (a ∷ xs) (b ∷ ys) (more d r) (more e s) = let t = paired-over xs ys r s in (more d (t .0), more e (t .1))
-
-pub paired-length : (xs ys : List ℤ) → length (paired xs ys) ≡ max (length xs) (length ys)
-unfolding paired
-paired-length [] [] = omega arith
-paired-length (a ∷ xs) [] = omega (arith, paired-length xs [])
-paired-length [] (b ∷ ys) = omega (arith, paired-length [] ys)
-paired-length (a ∷ xs) (b ∷ ys) = omega (arith, paired-length xs ys)
-
-pub paired-at : (xs ys : List ℤ) (i : ℕ) → getD (paired xs ys) i blankColumn ≡ point (getD xs i (pos 0)) (getD ys i (pos 0))
-unfolding paired
-paired-at [] [] i = refl
-paired-at (a ∷ xs) [] zero = refl
-paired-at (a ∷ xs) [] (suc i) = paired-at xs [] i
-paired-at [] (b ∷ ys) zero = refl
-paired-at [] (b ∷ ys) (suc i) = paired-at [] ys i
-paired-at (a ∷ xs) (b ∷ ys) zero = refl
-paired-at (a ∷ xs) (b ∷ ys) (suc i) = paired-at xs ys i
 
 -- the top digit of the longer row is not 0
 paired-top : (xs ys : List ℤ) → ((i : ℕ) → length xs ≡ suc i → getD xs i (pos 0) ≢ pos 0)
