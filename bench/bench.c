@@ -20,23 +20,29 @@ struct set {
     size_t most_bytes, sheet_bytes;
 };
 
-/* An archive may be older than the calls for rows from the top down, and than the gateway's. */
+/* An archive may be older than the calls for rows from the top down, than those for packed columns, and than the gateway's. */
 #ifdef WITH_DOWN
 #define DOWN(call) call
 #else
 #define DOWN(call) NULL
 #endif
+#ifdef WITH_PACKING
+#define PACKING(call) call
+#else
+#define PACKING(call) NULL
+#endif
 
 static const struct set card = {
     {sheets_row, DOWN(sheets_row_down), sheets_joint, sheets_joint_codes, sheets_plan_j, sheets_plan_i, DOWN(sheets_plan_i_down),
-     sheets_cheapest, sheets_read},
+     sheets_cheapest, sheets_read, PACKING(sheets_pack), PACKING(sheets_unpack)},
     &peer_card, 66, SHEETS_BYTES,
 };
 
 #ifdef WITH_GATEWAY
 static const struct set gateway = {
     {sheets_gateway_row, DOWN(sheets_gateway_row_down), sheets_gateway_joint, sheets_gateway_joint_codes, sheets_gateway_plan_j,
-     sheets_gateway_plan_i, DOWN(sheets_gateway_plan_i_down), sheets_gateway_cheapest, sheets_gateway_read},
+     sheets_gateway_plan_i, DOWN(sheets_gateway_plan_i_down), sheets_gateway_cheapest, sheets_gateway_read, PACKING(sheets_pack),
+     PACKING(sheets_unpack)},
     &peer_gateway, 128, SHEETS_GATEWAY_BYTES,
 };
 #endif
@@ -55,7 +61,13 @@ static const struct length {
 
 /* ---- inputs and outputs ---- */
 
-/* Pairs of scalars of one length and with the same two signs, as far apart as the set's longest, and a sheet of each, one behind the other. */
+/* More places than a joint form has. */
+enum { PLACES = SHEETS_PLACES(MOST_BYTES) };
+
+/*
+ * Pairs of scalars of one length and with the same two signs, as far apart as the set's longest; a sheet of each, one behind the other; and
+ * the rows of the joint form of each with their columns packed, as far apart as the longest.
+ */
 struct inputs {
     const struct set *set;
     size_t bytes;
@@ -63,12 +75,14 @@ struct inputs {
     uint8_t k[PAIRS * MOST_BYTES], l[PAIRS * MOST_BYTES];
     uint8_t sheets[PAIRS * SHEETS_GATEWAY_BYTES];
     size_t start[PAIRS + 1];
+    uint8_t k_row[PAIRS * PLACES], l_row[PAIRS * PLACES], packed[PAIRS * PLACES];
+    size_t columns[PAIRS];
 };
 
-/* What a call may write: two rows of digits and their codes, or a sheet. */
+/* What a call may write: two rows of digits and their codes, or a sheet, or packed columns. */
 struct output {
-    uint8_t k_digits[SHEETS_PLACES(MOST_BYTES)], l_digits[SHEETS_PLACES(MOST_BYTES)], sheet[SHEETS_GATEWAY_BYTES];
-    uint8_t k_codes[SHEETS_PLACES(MOST_BYTES)], l_codes[SHEETS_PLACES(MOST_BYTES)];
+    uint8_t k_digits[PLACES], l_digits[PLACES], sheet[SHEETS_GATEWAY_BYTES];
+    uint8_t k_codes[PLACES], l_codes[PLACES], packed[PLACES];
 };
 
 static const uint8_t *k_at(const struct inputs *in, size_t i)
@@ -159,6 +173,18 @@ static uint64_t read_sheet(const struct calls *c, const struct work *w, const st
     return c->read(in->sheets + in->start[i], in->start[i + 1] - in->start[i]);
 }
 
+static uint64_t pack(const struct calls *c, const struct work *w, const struct inputs *in, size_t i, struct output *out)
+{
+    (void)w;
+    return c->pack(in->columns[i], in->k_row + i * PLACES, PLACES, in->l_row + i * PLACES, PLACES, out->packed, PLACES);
+}
+
+static uint64_t unpack(const struct calls *c, const struct work *w, const struct inputs *in, size_t i, struct output *out)
+{
+    (void)w;
+    return c->unpack(in->columns[i], in->packed + i * PLACES, PLACES, out->k_digits, PLACES, out->l_digits, PLACES);
+}
+
 enum { WIDEST = 9, LARGEST = 13 };
 
 static const struct work works[] = {
@@ -178,11 +204,15 @@ static const struct work works[] = {
     [LARGEST] = {"cheapest, limit 31", cheapest, 31, 0, NULL},
     {"read, cheapest, limit 31", read_sheet, 0, 0, &works[LARGEST]},
     {"read, plan I 31, 31", read_sheet, 0, 0, &works[WIDEST]},
+    {"pack", pack, 0, 0, NULL},
+    {"unpack", unpack, 0, 0, NULL},
 };
 
 /* Whether the archive has the work's call. */
 static int is_there(const struct work *w)
 {
+    if (w->call == pack || w->call == unpack)
+        return card.library.pack != NULL;
     return card.library.row_down != NULL || (w->call != row_down && w->call != plan_i_down);
 }
 
@@ -194,6 +224,19 @@ static void fill_sheets(struct inputs *in, const struct work *w, struct output *
 
         memcpy(in->sheets + in->start[i], out->sheet, length);
         in->start[i + 1] = in->start[i] + length;
+    }
+}
+
+/* The joint form of each pair, by plain C. */
+static void fill_columns(struct inputs *in)
+{
+    const struct calls *c = in->set->plain_c;
+
+    for (size_t i = 0; i < PAIRS; i++) {
+        uint8_t *k_row = in->k_row + i * PLACES, *l_row = in->l_row + i * PLACES;
+
+        in->columns[i] = sheets_length(c->joint(k_at(in, i), in->bytes, in->ks, l_at(in, i), in->bytes, in->ls, k_row, PLACES, l_row, PLACES));
+        c->pack(in->columns[i], k_row, PLACES, l_row, PLACES, in->packed + i * PLACES, PLACES);
     }
 }
 
@@ -226,6 +269,8 @@ static void check_signs(const struct work *w, struct inputs *in, struct output *
         in->ls = signs[i][1];
         if (w->writes)
             fill_sheets(in, w->writes, out);
+        if (w->call == pack || w->call == unpack)
+            fill_columns(in);
         check(w, in);
     }
 }

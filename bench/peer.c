@@ -1046,6 +1046,40 @@ static uint64_t peer_read(const uint8_t *sheet, size_t n)
     return 0;
 }
 
+/* ---- one byte for a column ---- */
+
+static int is_small(uint8_t digit)
+{
+    return digit <= 1 || digit == 255;
+}
+
+static uint64_t peer_pack(size_t columns, const uint8_t *k, size_t k_places, const uint8_t *l, size_t l_places, uint8_t *packed, size_t room)
+{
+    if (k_places < columns || l_places < columns || room < columns)
+        return refusal(3, 0);
+    for (size_t i = 0; i < columns; i++)
+        if (!is_small(k[i]) || !is_small(l[i]))
+            return refusal(12, 0);
+    for (size_t i = 0; i < columns; i++)
+        packed[i] = (uint8_t)(3 * ((int8_t)k[i] + 1) + (int8_t)l[i] + 1);
+    return 0;
+}
+
+static uint64_t peer_unpack(size_t columns, const uint8_t *packed, size_t room, uint8_t *k, size_t k_places, uint8_t *l, size_t l_places)
+{
+    if (k_places < columns || l_places < columns || room < columns)
+        return refusal(3, 0);
+    for (size_t i = 0; i < columns; i++)
+        if (packed[i] > 8)
+            return refusal(12, 0);
+    for (size_t i = 0; i < columns; i++) {
+        k[i] = (uint8_t)(packed[i] / 3 - 1);
+        l[i] = (uint8_t)(packed[i] % 3 - 1);
+    }
+    return 0;
+}
+
 const struct calls CALLS = {
-    peer_row, peer_row_down, peer_joint, peer_joint_codes, peer_plan_j, peer_plan_i, peer_plan_i_down, peer_cheapest, peer_read,
+    peer_row,         peer_row_down, peer_joint, peer_joint_codes, peer_plan_j, peer_plan_i,
+    peer_plan_i_down, peer_cheapest, peer_read,  peer_pack,        peer_unpack,
 };

@@ -12,16 +12,19 @@
  * Sheets are ASCII lines, each ended by a line feed, with no byte 0 behind the last.
  *
  * Every call returns 64 bits. Bits 32 to 63, sheets_number, are the number of the question missed, 0 where none is. Below them a call
- * that writes has two numbers, both 0 where a question is missed: in bits 0 to 15, sheets_length, the length written; in bits 16 to 31 for
- * a row or a joint form, sheets_weight, how many of its digits, or of its columns, are not zero, and for a sheet, sheets_additions, its
- * additions, those that fill the table included. sheets_read has in bits 0 to 31, sheets_line, the line at fault, 0 where the sheet is
- * accepted. Questions are asked in the order given at each call, and the first one missed is the answer:
+ * that writes a row, a joint form or a sheet has two numbers, both 0 where a question is missed: in bits 0 to 15, sheets_length, the length
+ * written; in bits 16 to 31 for a row or a joint form, sheets_weight, how many of its digits, or of its columns, are not zero, and for a
+ * sheet, sheets_additions, its additions, those that fill the table included. sheets_read has in bits 0 to 31, sheets_line, the line at
+ * fault, 0 where the sheet is accepted. sheets_pack and sheets_unpack have 0 there. Questions are asked in the order given at each call, and
+ * the first one missed is the answer:
  *
  *    1   has each scalar 1 to 66 bytes?
  *    2   is each window odd, 1 to 31?
  *    3   has each buffer room: a digit or code buffer 8 places for each byte of the scalar, of the longer one for two, and one more
- *        (SHEETS_PLACES); a sheet buffer 16,384 bytes (SHEETS_BYTES)?
+ *        (SHEETS_PLACES); a sheet buffer 16,384 bytes (SHEETS_BYTES); of columns that are packed or unpacked, each row and the buffer
+ *        a place for each column?
  *    4   is the slot limit at most 31?
+ *   12   is each digit to be packed -1, 0 or 1, and each byte to be unpacked at most 8?
  *
  * A refusal changes no byte of any buffer. What is handed in as const is only read. Nothing is kept between calls, and nothing is
  * allocated.
@@ -72,6 +75,21 @@ uint64_t sheets_joint(const uint8_t *k, size_t kn, uint32_t ks, const uint8_t *l
 uint64_t sheets_joint_codes(const uint8_t *k, size_t kn, uint32_t ks, const uint8_t *l, size_t ln, uint32_t ls, uint8_t *k_digits,
                             size_t k_places, uint8_t *l_digits, size_t l_places, uint8_t *k_codes, size_t k_room, uint8_t *l_codes,
                             size_t l_room);
+
+/*
+ * The first columns of two rows, a byte for each: for the digits a and b of a column 3 * (a + 1) + (b + 1). Questions 3, 12. The answer is
+ * the number alone. Only the digits of these columns are looked at, and only their bytes are written: what lies past them stays as lent. A
+ * joint form is packed by its length, or by any number of places that its rows have.
+ */
+uint64_t sheets_pack(size_t columns, const uint8_t *k_digits, size_t k_places, const uint8_t *l_digits, size_t l_places, uint8_t *packed,
+                     size_t room);
+
+/*
+ * The columns of the first bytes of a buffer, their digits into two rows: what sheets_pack has packed comes back, and what is unpacked is
+ * packed to the same bytes. Questions 3, 12. The answer is the number alone; what lies past the columns stays as lent.
+ */
+uint64_t sheets_unpack(size_t columns, const uint8_t *packed, size_t room, uint8_t *k_digits, size_t k_places, uint8_t *l_digits,
+                       size_t l_places);
 
 /*
  * The sheet of plan J. Questions 1, 3. The length is the sheet's, in bytes, at most 16,384, and the additions are those that its header

@@ -2,7 +2,7 @@
  * Calls every function of sheets.h with good and bad input, and checks the answers and every byte of the buffers: against the samples
  * of the scope document, and for other scalars by reading the digits back and counting those that are not 0; with every pair of signs.
  * All this by the card's calls and by the gateway's, each at its own limits; then both sets at the limits of either. What has to do with
- * rows is done once more with rows from the top down.
+ * rows is done once more with rows from the top down. Columns are packed and unpacked, those of joint forms and others.
  */
 #include "sheets.h"
 
@@ -858,6 +858,174 @@ static void codes(void)
     negative_codes();
 }
 
+/* ---- one byte for a column ---- */
+
+/* The columns of the bytes 0 to 8. */
+static const int8_t nine_columns[9][2] = {{-1, -1}, {-1, 0}, {-1, 1}, {0, -1}, {0, 0}, {0, 1}, {1, -1}, {1, 0}, {1, 1}};
+
+/* The byte whose column stands at a place of two rows, 9 where there is none. */
+static unsigned byte_at(struct bytes k, struct bytes l, size_t i)
+{
+    unsigned b = 0;
+    while (b < 9 && (nine_columns[b][0] != digit(k.copy, i) || nine_columns[b][1] != digit(l.copy, i)))
+        b++;
+    return b;
+}
+
+/* A row of n digits: in each column the one that it has in this row, of the columns of these bytes over and over. */
+static struct bytes row_of(const uint8_t *packed, size_t columns, int row, size_t n)
+{
+    uint8_t all[PLENTY];
+    size_t i;
+    for (i = 0; i < n; i++)
+        all[i] = (uint8_t)nine_columns[packed[i % columns]][row];
+    return bytes_of(all, n);
+}
+
+/* The rows packed into a buffer with more room than that, unpacked into longer rows, and these packed again. */
+static void packs(size_t columns, struct bytes k, struct bytes l, size_t more, int line)
+{
+    uint8_t *packed = lend(&first), *p = lend(&second), *q = lend(&third), *again = lend(&fourth);
+    size_t i, wrong = 0;
+    check(sheets_pack(columns, k.at, k.n, l.at, l.n, packed, columns + more) == 0, "they are packed", line);
+    for (i = 0; i < columns; i++)
+        wrong += packed[i] != byte_at(k, l, i);
+    check(wrong == 0, "the byte of each column", line);
+    check(kept(&first, columns), "no other byte", line);
+    check(sheets_unpack(columns, packed, columns + more, p, columns + more / 2, q, columns + 2 * more) == 0, "they are unpacked", line);
+    check(columns == 0 || (memcmp(p, k.copy, columns) == 0 && memcmp(q, l.copy, columns) == 0), "the digits of each column", line);
+    check(kept(&second, columns) && kept(&third, columns) && kept(&first, columns), "no other digit, and no byte", line);
+    check(sheets_pack(columns, p, columns, q, columns + more, again, columns) == 0, "they are packed again", line);
+    check(memcmp(again, packed, columns) == 0 && kept(&fourth, columns), "the same bytes", line);
+    check(kept(&second, columns) && kept(&third, columns), "the rows are only read", line);
+    check(only_read(k) & only_read(l), "the rows are only read", line);
+}
+
+static void pack_refused(size_t columns, struct bytes k, struct bytes l, size_t room, uint32_t number, int line)
+{
+    refused(sheets_pack(columns, k.at, k.n, l.at, l.n, lend(&first), room), number, line);
+    check(kept(&first, 0), "the buffer is as lent", line);
+    check(only_read(k) & only_read(l), "the rows are only read", line);
+}
+
+static void unpack_refused(size_t columns, struct bytes packed, size_t k_places, size_t l_places, uint32_t number, int line)
+{
+    refused(sheets_unpack(columns, packed.at, packed.n, lend(&first), k_places, lend(&second), l_places), number, line);
+    check(kept(&first, 0) && kept(&second, 0), "the rows are as lent", line);
+    check(only_read(packed), "the bytes are only read", line);
+}
+
+#define PACKS(columns, k, l, more) packs((columns), (k), (l), (more), __LINE__)
+#define PACK_REFUSED(columns, k, l, room, number) pack_refused((columns), (k), (l), (room), (number), __LINE__)
+#define UNPACK_REFUSED(columns, packed, k_places, l_places, number) \
+    unpack_refused((columns), (packed), (k_places), (l_places), (number), __LINE__)
+
+/* The bytes 0 to 8. */
+static const uint8_t nine_bytes[] = {0, 1, 2, 3, 4, 5, 6, 7, 8};
+
+/* So many zeros, but one byte at a place. */
+static struct bytes but_one(size_t n, size_t place, uint8_t value)
+{
+    struct bytes b = filled(0, n);
+    b.at[place] = b.copy[place] = value;
+    return b;
+}
+
+/* Bytes that are no digit, and bytes that are no column: at the first, a middle and the last place refused, past it let pass. */
+static void bad_columns(void)
+{
+    unsigned value, place;
+    for (value = 0; value < 256; value++)
+        for (place = 0; place <= 20; place += 10) {
+            uint8_t b = (uint8_t)value;
+            if (value > 1 && value < 255) {
+                PACK_REFUSED(21, but_one(21, place, b), filled(0, 21), 21, 12);
+                PACK_REFUSED(21, filled(255, 30), but_one(30, place, b), 30, 12);
+                PACKS(place, but_one(21, place, b), filled(1, 21), 3);
+                PACKS(place, filled(255, 21), but_one(21, place, b), 3);
+            } else {
+                PACKS(21, but_one(21, place, b), filled(255, 24), 5);
+                PACKS(21, filled(1, 24), but_one(21, place, b), 5);
+            }
+            if (value > 8) {
+                struct bytes packed = but_one(21, place, b);
+                uint8_t *p = lend(&first), *q = lend(&second);
+                UNPACK_REFUSED(21, but_one(21, place, b), 21, 21, 12);
+                UNPACK_REFUSED(21, but_one(30, place, b), 30, 30, 12);
+                CHECK(sheets_unpack(place, packed.at, packed.n, p, place, q, place) == 0);
+                CHECK(kept(&first, place) && kept(&second, place) && only_read(packed));
+            }
+        }
+}
+
+/* Rows and buffers that are too short, and 3 before 12. */
+static void short_columns(void)
+{
+    size_t n;
+    for (n = 1; n <= 3; n++) {
+        PACK_REFUSED(n, filled(0, n - 1), filled(0, n), n, 3);
+        PACK_REFUSED(n, filled(0, n), filled(0, n - 1), n, 3);
+        PACK_REFUSED(n, filled(0, n), filled(0, n), n - 1, 3);
+        PACK_REFUSED(n, filled(2, n - 1), filled(254, n), n, 3);
+        PACK_REFUSED(n, filled(2, n), filled(254, n - 1), n, 3);
+        PACK_REFUSED(n, filled(2, n), filled(254, n), n - 1, 3);
+        UNPACK_REFUSED(n, filled(0, n - 1), n, n, 3);
+        UNPACK_REFUSED(n, filled(0, n), n - 1, n, 3);
+        UNPACK_REFUSED(n, filled(0, n), n, n - 1, 3);
+        UNPACK_REFUSED(n, filled(9, n - 1), n, n, 3);
+        UNPACK_REFUSED(n, filled(9, n), n - 1, n, 3);
+        UNPACK_REFUSED(n, filled(9, n), n, n - 1, 3);
+        PACK_REFUSED(SIZE_MAX - n + 1, filled(2, n), filled(2, n), n, 3);
+        UNPACK_REFUSED(SIZE_MAX - n + 1, filled(9, n), n, n, 3);
+        PACK_REFUSED((size_t)1 << 32, filled(0, n), filled(0, n), n, 3);
+        UNPACK_REFUSED((size_t)1 << 32, filled(0, n), n, n, 3);
+    }
+}
+
+/* The rows that the joint call of the set writes: its columns, and all places that the rows have. */
+static void packed_joint(struct bytes k, struct bytes l, int line)
+{
+    size_t places = SHEETS_PLACES(k.n > l.n ? k.n : l.n), n;
+    uint8_t *p = lend(&first), *q = lend(&second);
+    struct bytes k_row, l_row;
+    n = length_within(by->joint(k.at, k.n, k.sign, l.at, l.n, l.sign, p, places, q, places), places);
+    k_row = bytes_of(p, places);
+    l_row = bytes_of(q, places);
+    packs(n, bytes_of(p, n), bytes_of(q, n), 0, line);
+    packs(n, bytes_of(k_row.at, places), bytes_of(l_row.at, places), 9, line);
+    packs(places, k_row, l_row, 2, line);
+    check(only_read(k) & only_read(l), "the scalars are only read", line);
+}
+
+static void columns(void)
+{
+    size_t i;
+    CHECK(sheets_pack(0, NULL, 0, NULL, 0, NULL, 0) == 0 && sheets_unpack(0, NULL, 0, NULL, 0, NULL, 0) == 0);
+    PACKS(0, filled(2, 3), filled(254, 1), 4);
+    for (i = 0; i < 9; i++) {
+        struct bytes k = row_of(nine_bytes + i, 1, 0, 1), l = row_of(nine_bytes + i, 1, 1, 1);
+        CHECK(byte_at(k, l, 0) == i);
+        PACKS(1, k, l, 0);
+        PACKS(1, row_of(nine_bytes + i, 1, 0, 2), row_of(nine_bytes + i, 1, 1, 40), 6);
+    }
+    for (i = 0; i <= MOST_PLACES; i++)
+        PACKS(i, row_of(nine_bytes, 9, 0, i), row_of(nine_bytes + i % 9, 9 - i % 9, 1, i + i % 3), i % 4);
+    bad_columns();
+    short_columns();
+}
+
+static void packed_joints(void)
+{
+    size_t n;
+    packed_joint(byte(13), byte(10), __LINE__);
+    packed_joint(byte(0), byte(0), __LINE__);
+    packed_joint(heavy(), minus(heavy()), __LINE__);
+    for (n = 1; n <= by->bytes; n++) {
+        packed_joint(any_scalar(n), any_within(), __LINE__);
+        packed_joint(any_within(), any_scalar(n), __LINE__);
+    }
+}
+
 /* ---- sheets ---- */
 
 /* A call for a sheet: of plan J, of plan I with two windows, or the cheapest under a limit. */
@@ -1617,9 +1785,12 @@ int main(void)
             continue;
         joints();
         codes();
+        packed_joints();
         sheets();
         readings();
     }
+    by = &card;
+    columns();
     scalar_limits(&card, &gateway);
     scalar_limits(&card_down, &gateway_down);
     reading_limits();

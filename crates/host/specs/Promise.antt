@@ -1,16 +1,29 @@
 -- What the C host can rely on: the parts that sheets.h takes out of the number that a call returns are the number of the question missed,
--- and the length and the weight, or the additions, of what was written, or the reader's line, whatever was asked.
-use mathlib.Core.Path.{_≡_}
+-- and the length and the weight, or the additions, of what was written, or the reader's line, whatever was asked. And that the rows of a
+-- joint call can always be packed.
+use mathlib.Core.Path.{_≡_, refl, ap, ap₂, _∙_}
 use mathlib.Core.List.{List}
-use Prim.Native.Nat.{ℕ}
+use Prim.Native.Nat.{ℕ, _-_, _≤_}
 use native.Mathlib.Omega.{arith}
-use Rattle.digits.specs.Scalar.{Bytes}
+use lib.ListN.{length}
+use Rattle.digits.specs.Column.{row}
+use Rattle.digits.specs.Scalar.{Bytes, signedScalar}
+use Rattle.digits.specs.Two.{Two, P, Q, of, two}
+use Rattle.forms.specs.Joint.{joint}
+use Rattle.forms.specs.Joint.Value.{joint-small}
 use Rattle.digits.specs.declared.limits.Limits.{Limits}
+use Rattle.packing.specs.Call as Packs
+use Rattle.packing.specs.Call.{packAnswer}
+use Rattle.packing.specs.Promise.{rows-pack}
+use Rattle.packing.specs.declared.answer.Packing.{Packing}
+use Rattle.packing.specs.declared.answer.Packing.the-variants.{NoRoom, BadColumn, Done}
 use Rattle.recode.specs.Call as Recoding
 use Rattle.codes.specs.Call.{codesAnswer}
 use Rattle.down.specs.Call.{downAnswer}
-use Rattle.recode.specs.Call.{rowAnswer, jointAnswer}
+use Rattle.recode.specs.Call.{rowAnswer, jointAnswer, jointBuffer, left, filled}
+use Rattle.recode.specs.Call.Lent.{filled-long}
 use Rattle.recode.specs.declared.answer.Recoded.{Recoded}
+use Rattle.recode.specs.declared.answer.Recoded.the-variants.{Written}
 use Rattle.writer.specs.Call as Writing
 use Rattle.writer.specs.Call.{jAnswer, iAnswer, iDownAnswer}
 use Rattle.writer.specs.declared.answer.Sheet.{Sheet}
@@ -19,7 +32,7 @@ use Rattle.sheet.specs.Answer.{answer}
 use Rattle.reader.specs.Judgement.{judgement}
 use Rattle.reader.specs.declared.judge.Judgement.{Judgement}
 use Rattle.host.specs.Told.{
-  packed,
+  numbered,
   joined,
   Fits,
   toldRecoded,
@@ -29,6 +42,7 @@ use Rattle.host.specs.Told.{
   number,
   line,
   toldJudgement,
+  toldPacking,
   sheetsNumber,
   sheetsLength,
   sheetsWeight,
@@ -55,15 +69,20 @@ pub record JudgementParts (j : Judgement) : Type 0 where
   pub number-is : sheetsNumber (toldJudgement j) ≡ number j
   pub line-is : sheetsLine (toldJudgement j) ≡ line j
 
--- what is packed comes out again
+-- columns that were to be packed or unpacked
+pub record PackingParts (p : Packing) : Type 0 where
+  pub number-is : sheetsNumber (toldPacking p) ≡ Packs.number p
+  pub nothing-below : sheetsLine (toldPacking p) ≡ 0
+
+-- what is put together comes out again
 module _ (n : ℕ) {length count : ℕ} (h : Fits length count) where
-  above : sheetsNumber (packed n (joined length count)) ≡ n
+  above : sheetsNumber (numbered n (joined length count)) ≡ n
   above = omega (arith, h .length-fits, h .count-fits)
 
-  below : sheetsLength (packed n (joined length count)) ≡ length
+  below : sheetsLength (numbered n (joined length count)) ≡ length
   below = omega (arith, h .length-fits, h .count-fits)
 
-  between : sheetsWeight (packed n (joined length count)) ≡ count
+  between : sheetsWeight (numbered n (joined length count)) ≡ count
   between = omega (arith, h .length-fits, h .count-fits)
 
 recoded-parts : (r : Recoded) → RecodedFits r → RecodedParts r
@@ -113,3 +132,26 @@ module _ (limits : Limits) (tellable : Tellable limits) where
   -- a sheet that is read
   pub read-parts : (s : List ℕ) → JudgementParts (judgement (answer limits s))
   read-parts s = record { number-is = omega (arith, tellable .sheet, line-within limits s); line-is = omega (arith, tellable .sheet, line-within limits s) }
+
+-- columns packed or unpacked
+pub packing-parts : (p : Packing) → PackingParts p
+packing-parts NoRoom = record { number-is = refl; nothing-below = refl }
+packing-parts BadColumn = record { number-is = refl; nothing-below = refl }
+packing-parts Done = record { number-is = refl; nothing-below = refl }
+
+-- ── the rows of a joint call can always be packed ───────────────────────────────────────────
+
+module _ (limits : Limits) (k : List ℕ) (k-sign : ℕ) (l : List ℕ) (l-sign : ℕ) (k-digits l-digits : List ℕ) (length-is weight-is : ℕ)
+    (written : jointAnswer limits k k-sign l l-sign (length k-digits) (length l-digits) ≡ Written length-is weight-is) where
+  stands : (r : Two) → jointBuffer limits r k k-sign l l-sign k-digits l-digits ≡ filled (row two r (joint (signedScalar k k-sign) (signedScalar l l-sign))) (of k-digits l-digits r)
+  unfolding jointBuffer
+  stands r = ap (λ (a : Recoded). left a (row two r (joint (signedScalar k k-sign) (signedScalar l l-sign))) (of k-digits l-digits r)) written
+
+  -- as many columns as both rows and the buffer have places, also beyond those that were written
+  pub joint-packs : (n : ℕ) (packed : List ℕ) → n ≤ length k-digits → n ≤ length l-digits → n ≤ length packed
+      → packAnswer n (jointBuffer limits P k k-sign l l-sign k-digits l-digits) (jointBuffer limits Q k k-sign l l-sign k-digits l-digits) (length packed) ≡ Done
+  joint-packs n packed h g f =
+      let cs = joint (signedScalar k k-sign) (signedScalar l l-sign) in
+      ap₂ (λ (p q : List ℕ). packAnswer n p q (length packed)) (stands P) (stands Q)
+      ∙ rows-pack cs (length k-digits - length (row two P cs)) (length l-digits - length (row two Q cs)) n packed (joint-small (signedScalar k k-sign) (signedScalar l l-sign))
+      (filled-long (row two P cs) k-digits n h) (filled-long (row two Q cs) l-digits n g) f

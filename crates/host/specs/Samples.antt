@@ -4,10 +4,11 @@ use mathlib.Core.List.{List, [], _∷_, List·Memᴰ}
 use Prim.Native.Nat.{ℕ}
 use lib.Dec.{T}
 use Rattle.forms.specs.Test.{Test, equal, everyOf}
+use Rattle.packing.specs.declared.answer.Packing.the-variants as packing
 use Rattle.recode.specs.declared.answer.Recoded.the-variants as recoded
 use Rattle.writer.specs.declared.answer.Sheet.the-variants as sheet
 use Rattle.reader.specs.declared.judge.Judgement.the-variants.{Accepted, Refused}
-use Rattle.host.specs.Told.{toldRecoded, toldSheet, toldJudgement, sheetsNumber, sheetsLength, sheetsWeight, sheetsAdditions, sheetsLine}
+use Rattle.host.specs.Told.{toldRecoded, toldSheet, toldJudgement, toldPacking, sheetsNumber, sheetsLength, sheetsWeight, sheetsAdditions, sheetsLine}
 
 -- a number, and what it is
 pub data Sample : Type 0 where
@@ -33,6 +34,10 @@ samples =
     -- a sheet that is accepted, and one that misses question 9 at line 531
     ∷ is (toldJudgement Accepted) 0
     ∷ is (toldJudgement (Refused 9 531)) 38654706195
+    -- columns that are packed, and that miss questions 3 and 12
+    ∷ is (toldPacking packing.Done) 0
+    ∷ is (toldPacking packing.NoRoom) 12884901888
+    ∷ is (toldPacking packing.BadColumn) 51539607552
     -- the parts of 0x89abcdef76543210
     ∷ is (sheetsNumber 9920249032579756560) 2309737967
     ∷ is (sheetsLength 9920249032579756560) 12816

@@ -2,6 +2,8 @@
 pub mod Parts
 pub mod Lines
 use Prim.Native.Nat.{ℕ, _+_, _*_, _/_, _%_, _^_, _<_}
+use Rattle.packing.specs.Call as Packs
+use Rattle.packing.specs.declared.answer.Packing.{Packing}
 use Rattle.recode.specs.Call as Recoding
 use Rattle.recode.specs.declared.answer.Recoded.{Recoded}
 use Rattle.writer.specs.Call as Writing
@@ -10,8 +12,8 @@ use Rattle.reader.specs.declared.judge.Judgement.{Judgement}
 use Rattle.reader.specs.declared.judge.Judgement.the-variants.{Accepted, Refused}
 
 -- a number in bits 32 to 63, and the rest below it
-abbrev pub packed : ℕ → ℕ → ℕ
-packed number rest = number * 2 ^ 32 + rest
+abbrev pub numbered : ℕ → ℕ → ℕ
+numbered number rest = number * 2 ^ 32 + rest
 
 -- a length in bits 0 to 15, and what is counted in bits 16 to 31
 abbrev pub joined : ℕ → ℕ → ℕ
@@ -24,14 +26,14 @@ pub record Fits (length count : ℕ) : Type 0 where
 
 -- a row or a joint form: the number of the question missed, 0 where none is; the length, and the weight
 abbrev pub toldRecoded : Recoded → ℕ
-toldRecoded r = packed (Recoding.number r) (joined (Recoding.placesWritten r) (Recoding.weightWritten r))
+toldRecoded r = numbered (Recoding.number r) (joined (Recoding.placesWritten r) (Recoding.weightWritten r))
 
 abbrev pub RecodedFits : Recoded → Type 0
 RecodedFits r = Fits (Recoding.placesWritten r) (Recoding.weightWritten r)
 
 -- a sheet: the number; the length, and the additions
 abbrev pub toldSheet : Sheet → ℕ
-toldSheet s = packed (Writing.number s) (joined (Writing.bytesWritten s) (Writing.additions s))
+toldSheet s = numbered (Writing.number s) (joined (Writing.bytesWritten s) (Writing.additions s))
 
 abbrev pub SheetFits : Sheet → Type 0
 SheetFits s = Fits (Writing.bytesWritten s) (Writing.additions s)
@@ -48,7 +50,11 @@ line (Refused n at) = at
 
 -- the reader: both
 abbrev pub toldJudgement : Judgement → ℕ
-toldJudgement j = packed (number j) (line j)
+toldJudgement j = numbered (number j) (line j)
+
+-- columns packed or unpacked: the number, and nothing below it
+abbrev pub toldPacking : Packing → ℕ
+toldPacking p = numbered (Packs.number p) 0
 
 -- ── the parts, by the names that sheets.h has for them ──────────────────────────────────────
 

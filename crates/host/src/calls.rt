@@ -7,9 +7,10 @@ ghost use Rattle.down.specs.Call.{downAnswer, downBuffer};
 ghost use Rattle.codes.specs.Call.{codesAnswer, codesDigits, codesBuffer};
 ghost use Rattle.writer.specs.Call.{jAnswer, jBuffer, iAnswer, iBuffer, iDownAnswer, iDownBuffer};
 ghost use Rattle.chooser.specs.Call.{cheapestAnswer, cheapestBuffer};
+ghost use Rattle.packing.specs.Call.{packAnswer, packBuffer, unpackAnswer, unpackBuffer};
 ghost use Rattle.sheet.specs.Answer.{answer};
 ghost use Rattle.reader.specs.Judgement.{judgement};
-ghost use Rattle.host.specs.Told.{toldRecoded, toldSheet, toldJudgement};
+ghost use Rattle.host.specs.Told.{toldRecoded, toldSheet, toldJudgement, toldPacking};
 
 // The row of a scalar for the window m.
 #[no_mangle]
@@ -147,4 +148,33 @@ pub extern "C" fn sheets_read(sheet: &[u8]) -> u64
     ensures answer { λ r. ⌜ r ≡ toldJudgement (judgement (answer card (now (sheet .entry)))) ⌝ }
 {
     crate::told::judged(reader::read(sheet))
+}
+
+// So many columns of two rows, a byte for each.
+#[no_mangle]
+pub extern "C" fn sheets_pack(
+    columns: usize,
+    k_digits: &[u8],
+    l_digits: &[u8],
+    packed: &mut [u8],
+) -> u64
+    ensures answer { λ r. ⌜ r ≡ toldPacking (packAnswer columns (now («k_digits» .entry)) (now («l_digits» .entry)) (length (now (packed .entry)))) ⌝ }
+    ensures buffer { λ _. ⌜ now (packed .exit) ≡ packBuffer columns (now («k_digits» .entry)) (now («l_digits» .entry)) (now (packed .entry)) ⌝ }
+{
+    crate::told::packing(packing::pack(columns, k_digits, l_digits, packed))
+}
+
+// The two rows of so many bytes.
+#[no_mangle]
+pub extern "C" fn sheets_unpack(
+    columns: usize,
+    packed: &[u8],
+    k_digits: &mut [u8],
+    l_digits: &mut [u8],
+) -> u64
+    ensures answer { λ r. ⌜ r ≡ toldPacking (unpackAnswer columns (now (packed .entry)) (length (now («k_digits» .entry))) (length (now («l_digits» .entry)))) ⌝ }
+    ensures first { λ _. ⌜ now («k_digits» .exit) ≡ unpackBuffer P columns (now (packed .entry)) (now («k_digits» .entry)) (now («l_digits» .entry)) ⌝ }
+    ensures second { λ _. ⌜ now («l_digits» .exit) ≡ unpackBuffer Q columns (now (packed .entry)) (now («k_digits» .entry)) (now («l_digits» .entry)) ⌝ }
+{
+    crate::told::packing(packing::unpack(columns, packed, k_digits, l_digits))
 }

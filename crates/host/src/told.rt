@@ -1,6 +1,7 @@
 ghost use mathlib.Core.Path.{_≡_};
 ghost use Prim.Native.Nat.{_^_, _<_};
-ghost use Rattle.host.specs.Told.{packed, joined, Fits, toldRecoded, RecodedFits, toldSheet, SheetFits, line, toldJudgement};
+ghost use Rattle.host.specs.Told.{numbered, joined, Fits, toldRecoded, RecodedFits, toldSheet, SheetFits, line, toldJudgement, toldPacking};
+use packing::Packing;
 use reader::Judgement;
 use recode::Recoded;
 use writer::Sheet;
@@ -10,7 +11,7 @@ pub fn recoded(answer: Recoded) -> u64
     requires { ⌜ RecodedFits answer ⌝ }
     ensures { λ r. ⌜ r ≡ toldRecoded answer ⌝ }
 {
-    pack(answer.number(), join(answer.places(), answer.weight()))
+    numbered(answer.number(), join(answer.places(), answer.weight()))
 }
 
 // What is told of a sheet.
@@ -18,7 +19,7 @@ pub fn written(answer: Sheet) -> u64
     requires { ⌜ SheetFits answer ⌝ }
     ensures { λ r. ⌜ r ≡ toldSheet answer ⌝ }
 {
-    pack(
+    numbered(
         answer.number(),
         join(answer.bytes(), answer.additions() as usize),
     )
@@ -30,9 +31,16 @@ pub fn judged(answer: Judgement) -> u64
     ensures { λ r. ⌜ r ≡ toldJudgement answer ⌝ }
 {
     match answer {
-        Judgement::Accepted => pack(0, 0),
-        Judgement::Refused(number, line) => pack(number, line),
+        Judgement::Accepted => numbered(0, 0),
+        Judgement::Refused(number, line) => numbered(number, line),
     }
+}
+
+// What is told of columns that were to be packed or unpacked.
+pub fn packing(answer: Packing) -> u64
+    ensures { λ r. ⌜ r ≡ toldPacking answer ⌝ }
+{
+    numbered(answer.number(), 0)
 }
 
 // A length in bits 0 to 15, and what is counted in bits 16 to 31.
@@ -44,9 +52,9 @@ fn join(length: usize, count: usize) -> usize
 }
 
 // The number of the question missed in bits 32 to 63, and the rest of the answer below it.
-fn pack(number: u32, rest: usize) -> u64
+fn numbered(number: u32, rest: usize) -> u64
     requires { ⌜ rest < 2 ^ 32 ⌝ }
-    ensures { λ r. ⌜ r ≡ packed number rest ⌝ }
+    ensures { λ r. ⌜ r ≡ numbered number rest ⌝ }
 {
     number as u64 * 4294967296 + rest as u64
 }

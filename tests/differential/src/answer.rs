@@ -19,6 +19,10 @@ pub enum Answer {
     Sheet { bytes: Vec<u8>, additions: usize },
     /// The reader accepts.
     Accepted,
+    /// The bytes of columns.
+    Packed(Vec<u8>),
+    /// The digits of columns for k and for l.
+    Unpacked(Vec<i8>, Vec<i8>),
 }
 
 impl Answer {
@@ -40,7 +44,7 @@ impl Answer {
                 written(k_row.len(), joint::weight(&columns(k_row, l_row)))
             }
             Answer::Sheet { bytes, additions } => written(bytes.len(), *additions),
-            Answer::Accepted => 0,
+            Answer::Accepted | Answer::Packed(_) | Answer::Unpacked(_, _) => 0,
         }
     }
 
@@ -61,8 +65,12 @@ impl Answer {
                 leave_bytes(k_codes, k_buffer);
                 leave_bytes(l_codes, l_buffer);
             }
-            (Answer::Sheet { bytes, .. }, [buffer]) => {
+            (Answer::Sheet { bytes, .. } | Answer::Packed(bytes), [buffer]) => {
                 buffer[..bytes.len()].copy_from_slice(bytes);
+            }
+            (Answer::Unpacked(k_row, l_row), [k_buffer, l_buffer]) => {
+                leave_digits(k_row, &mut k_buffer[..k_row.len()]);
+                leave_digits(l_row, &mut l_buffer[..l_row.len()]);
             }
             (Answer::Refused(_) | Answer::Accepted, _) => {}
             _ => unreachable!("every answer has its own number of buffers"),
@@ -152,6 +160,12 @@ mod tests {
         assert_eq!(code("joint 0d 0 0a 0 8 9"), 3 << 32);
         assert_eq!(code("cheapest 07 0 02 0 32 16384"), 4 << 32);
         assert_eq!(code("read -"), 6 << 32 | 1);
+        assert_eq!(code("pack 2 00ff 0101 2"), 0);
+        assert_eq!(code("pack 2 00ff 0102 2"), 12 << 32);
+        assert_eq!(code("pack 2 00ff 0102 1"), 3 << 32);
+        assert_eq!(code("unpack 2 0508 2 2"), 0);
+        assert_eq!(code("unpack 2 0509 2 2"), 12 << 32);
+        assert_eq!(code("unpack 2 0509 2 1"), 3 << 32);
         assert_eq!(Answer::refused(9, 531).code(), 9 << 32 | 531);
         assert_eq!(Answer::refused(11, 0x1_2345).code(), 0x0000_000b_0001_2345);
         assert_eq!(Answer::Accepted.code(), 0);
@@ -193,5 +207,15 @@ mod tests {
         let mut buffers = [vec![9; 5]];
         Answer::Sheet { bytes: b"E\n".to_vec(), additions: 0 }.leave_in(&mut buffers);
         assert_eq!(buffers[0], *b"E\n\x09\x09\x09");
+    }
+
+    #[test]
+    fn what_lies_past_packed_and_unpacked_columns_stays() {
+        let mut buffers = [vec![9; 5]];
+        Answer::Packed(vec![0, 4, 8]).leave_in(&mut buffers);
+        assert_eq!(buffers[0], [0, 4, 8, 9, 9]);
+        let mut buffers = [vec![9; 4], vec![7; 3]];
+        Answer::Unpacked(vec![-1, 0, 1], vec![1, 0, -1]).leave_in(&mut buffers);
+        assert_eq!(buffers, [vec![255, 0, 1, 9], vec![1, 0, 255]]);
     }
 }

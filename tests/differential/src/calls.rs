@@ -9,7 +9,7 @@ use crate::limits::Limits;
 use crate::plan::{Plan, MOST_SLOTS};
 use crate::scalars::Scalar;
 use crate::sheet::Sheet;
-use crate::{codes, joint, reader};
+use crate::{codes, joint, packing, reader};
 use std::fmt;
 
 /// A call with all that is lent to it, but for what its buffers hold before.
@@ -56,6 +56,19 @@ pub enum Call {
     Read {
         sheet: Vec<u8>,
     },
+    /// Any number of columns, whatever the rows and the buffer have.
+    Pack {
+        columns: usize,
+        k_digits: Vec<u8>,
+        l_digits: Vec<u8>,
+        room: usize,
+    },
+    Unpack {
+        columns: usize,
+        packed: Vec<u8>,
+        k_places: usize,
+        l_places: usize,
+    },
 }
 
 impl Call {
@@ -95,10 +108,24 @@ impl Call {
                 Ok(()) => Answer::Accepted,
                 Err(refusal) => Answer::Refused(refusal),
             },
+            Call::Pack { columns, k_digits, l_digits, .. } => {
+                match packing::pack(&k_digits[..*columns], &l_digits[..*columns]) {
+                    Some(bytes) => Answer::Packed(bytes),
+                    None => Answer::refused(12, 0),
+                }
+            }
+            Call::Unpack { columns, packed, .. } => match packing::unpack(&packed[..*columns]) {
+                Some(columns) => {
+                    let (k_row, l_row) = joint::rows(&columns);
+                    Answer::Unpacked(k_row, l_row)
+                }
+                None => Answer::refused(12, 0),
+            },
         }
     }
 
-    /// The number of the first question missed by a call other than the reader.
+    /// The number of the first question missed by a call other than the reader; question 12, of the
+    /// digits and bytes of columns, comes after these.
     fn first_question_missed(&self, limits: Limits) -> Option<u32> {
         let has_length = |scalar: &Scalar| (1..=limits.bytes()).contains(&scalar.bytes.len());
         let questions = match self {
@@ -137,6 +164,14 @@ impl Call {
                 (*room >= limits.sheet(), 3),
             ],
             Call::Read { .. } => Vec::new(),
+            Call::Pack { columns, k_digits, l_digits, room } => {
+                let lengths = [k_digits.len(), l_digits.len(), *room];
+                vec![(lengths.iter().all(|length| length >= columns), 3)]
+            }
+            Call::Unpack { columns, packed, k_places, l_places } => {
+                let lengths = [packed.len(), *k_places, *l_places];
+                vec![(lengths.iter().all(|length| length >= columns), 3)]
+            }
         };
         questions.into_iter().find(|(met, _)| !met).map(|(_, number)| number)
     }
@@ -151,6 +186,8 @@ impl Call {
             | Call::PlanI { k, l, .. }
             | Call::Cheapest { k, l, .. } => vec![&k.bytes, &l.bytes],
             Call::Read { sheet } => vec![sheet],
+            Call::Pack { k_digits, l_digits, .. } => vec![k_digits, l_digits],
+            Call::Unpack { packed, .. } => vec![packed],
         }
     }
 
@@ -168,11 +205,14 @@ impl Call {
     pub fn rooms(&self) -> Vec<usize> {
         match self {
             Call::Row { places, .. } => vec![*places],
-            Call::Joint { k_places, l_places, .. } => vec![*k_places, *l_places],
-            Call::JointCodes { rooms, .. } => rooms.to_vec(),
-            Call::PlanJ { room, .. } | Call::PlanI { room, .. } | Call::Cheapest { room, .. } => {
-                vec![*room]
+            Call::Joint { k_places, l_places, .. } | Call::Unpack { k_places, l_places, .. } => {
+                vec![*k_places, *l_places]
             }
+            Call::JointCodes { rooms, .. } => rooms.to_vec(),
+            Call::PlanJ { room, .. }
+            | Call::PlanI { room, .. }
+            | Call::Cheapest { room, .. }
+            | Call::Pack { room, .. } => vec![*room],
             Call::Read { .. } => Vec::new(),
         }
     }
@@ -206,6 +246,12 @@ impl fmt::Display for Call {
                 write!(out, "cheapest {} {} {limit} {room}", words(k), words(l))
             }
             Call::Read { sheet } => write!(out, "read {}", hex(sheet)),
+            Call::Pack { columns, k_digits, l_digits, room } => {
+                write!(out, "pack {columns} {} {} {room}", hex(k_digits), hex(l_digits))
+            }
+            Call::Unpack { columns, packed, k_places, l_places } => {
+                write!(out, "unpack {columns} {} {k_places} {l_places}", hex(packed))
+            }
         }
     }
 }
@@ -253,6 +299,18 @@ pub fn parse(words: &[&str]) -> Option<Call> {
             room: room.parse().ok()?,
         },
         ["read", sheet] => Call::Read { sheet: unhex(sheet)? },
+        ["pack", columns, k_digits, l_digits, room] => Call::Pack {
+            columns: columns.parse().ok()?,
+            k_digits: unhex(k_digits)?,
+            l_digits: unhex(l_digits)?,
+            room: room.parse().ok()?,
+        },
+        ["unpack", columns, packed, k_places, l_places] => Call::Unpack {
+            columns: columns.parse().ok()?,
+            packed: unhex(packed)?,
+            k_places: k_places.parse().ok()?,
+            l_places: l_places.parse().ok()?,
+        },
         _ => return None,
     })
 }
@@ -316,6 +374,8 @@ mod tests {
             Call::PlanJ { k: k.with_sign(2), l: l.with_sign(0), room: 16_384 },
             Call::Cheapest { k, l, limit: 32, room: 0 },
             Call::Read { sheet: b"E\n".to_vec() },
+            Call::Pack { columns: 2, k_digits: vec![0, 255, 2], l_digits: vec![], room: 3 },
+            Call::Unpack { columns: usize::MAX, packed: vec![8], k_places: 0, l_places: 5 },
         ];
         for call in of_rows.into_iter().flatten().chain(others) {
             let printed = call.to_string();

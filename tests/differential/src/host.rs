@@ -1,4 +1,4 @@
-//! The calls that libhost.a exports to a C host: the card's and the gateway's.
+//! The calls that libhost.a exports to a C host: the card's, the gateway's, and those for columns.
 
 use crate::lent::Lent;
 use reference::calls::Call;
@@ -50,6 +50,12 @@ calls! {
         (Read, usize, u32, Read, usize, u32, u32, Write, usize);
     read: sheets_read, sheets_gateway_read
         (Read, usize);
+}
+
+// The calls for columns, which have no limits.
+extern "C" {
+    fn sheets_pack(_: usize, _: Read, _: usize, _: Read, _: usize, _: Write, _: usize) -> u64;
+    fn sheets_unpack(_: usize, _: Read, _: usize, _: Write, _: usize, _: Write, _: usize) -> u64;
 }
 
 /// Makes the call of the set with these limits, with these inputs and buffers. The inputs come from
@@ -112,6 +118,16 @@ pub fn make(limits: Limits, call: &Call, inputs: &mut [Lent], buffers: &mut [Len
         (Call::Read { .. }, [sheet], []) => {
             let (sheet, n) = sheet.raw();
             unsafe { (calls.read)(sheet, n) }
+        }
+        (Call::Pack { columns, .. }, [k_digits, l_digits], [packed]) => {
+            let ((k, k_places), (l, l_places)) = (k_digits.raw(), l_digits.raw());
+            let (packed, room) = packed.raw();
+            unsafe { sheets_pack(*columns, k, k_places, l, l_places, packed, room) }
+        }
+        (Call::Unpack { columns, .. }, [packed], [k_digits, l_digits]) => {
+            let (packed, room) = packed.raw();
+            let ((k, k_places), (l, l_places)) = (k_digits.raw(), l_digits.raw());
+            unsafe { sheets_unpack(*columns, packed, room, k, k_places, l, l_places) }
         }
         _ => unreachable!("every call has its own inputs and buffers"),
     }

@@ -63,9 +63,9 @@ impl Judge {
 
     /// Makes the call, compares it whole with the reference's answer, and holds a number found in
     /// its outcome, and the same one answered, against one found by other means.
-    pub fn compare_claiming(&mut self, call: &Call, claim: &dyn Fn(&Outcome) -> Claim) {
+    pub fn compare_claiming(&mut self, call: &Call, claim: &dyn Fn(&Outcome) -> Claim) -> Outcome {
         let fill = self.fills.number();
-        self.compare_filled(call, &call.answer(self.limits), fill, Some(claim));
+        self.compare_filled(call, &call.answer(self.limits), fill, Some(claim))
     }
 
     /// Holds what was found out about sheets against what it has to be.

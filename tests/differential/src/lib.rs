@@ -1,6 +1,6 @@
 //! A second implementation of the double-and-add sheets, written from the scope document alone,
-//! and for rows from the top down from source document 000. The differential test compares the
-//! library with it.
+//! for rows from the top down from source document 000, and for packed columns from their
+//! definition. The differential test compares the library with it.
 
 pub mod answer;
 pub mod big;
@@ -19,6 +19,7 @@ pub mod joint;
 pub mod least;
 pub mod licences;
 pub mod limits;
+pub mod packing;
 pub mod plan;
 pub mod random;
 pub mod reader;

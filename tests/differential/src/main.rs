@@ -71,6 +71,7 @@ fn compare_everything(judge: &mut Judge, seed: u64) {
         println!("  {sheets} sheets run on a card in software, {operations} group operations");
         println!("  a carry that stops spoils {spoiled} of {licences} real licences");
     });
+    section(judge, "packed columns", |judge| runs::joint_forms::run_columns(judge, random));
 }
 
 fn section(judge: &mut Judge, name: &str, run: impl FnOnce(&mut Judge)) {

@@ -85,6 +85,9 @@ impl Outcome {
                 format!("number {number}, length {length}, additions {}", self.additions())
             }
             Call::Read { .. } => format!("number {number}, line {}", self.line()),
+            Call::Pack { .. } | Call::Unpack { .. } => {
+                format!("number {number}, low half {}", self.code as u32)
+            }
         }
     }
 
@@ -101,12 +104,13 @@ impl Outcome {
     }
 }
 
-/// Digits as numbers, sheets as text.
+/// Digits and packed columns as numbers, sheets as text.
 fn show(bytes: &[u8], call: &Call) -> String {
     match call {
-        Call::Row { .. } | Call::Joint { .. } | Call::JointCodes { .. } => {
+        Call::Row { .. } | Call::Joint { .. } | Call::JointCodes { .. } | Call::Unpack { .. } => {
             format!("{:?}", bytes.iter().map(|&byte| byte as i8).collect::<Vec<_>>())
         }
+        Call::Pack { .. } => format!("{bytes:?}"),
         _ => format!("\"{}\"", bytes.escape_ascii()),
     }
 }

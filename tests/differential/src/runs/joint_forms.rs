@@ -1,12 +1,20 @@
-//! Joint sparse forms, without their codes and with them.
+//! Joint sparse forms, without their codes and with them; and columns packed and unpacked.
 
 use super::refused_scalars;
 use crate::judge::Judge;
+use crate::outcome::Outcome;
 use reference::calls::Call;
+use reference::packing;
 use reference::random::Random;
 use reference::scalars::{self, Scalar};
 
 const RANDOM_PAIRS: usize = 15_000;
+
+/// The most columns of a random list: more than a joint form has.
+const MOST_COLUMNS: usize = 1_100;
+
+/// Calls for columns, many of them refused.
+const RANDOM_CALLS: usize = 30_000;
 
 pub fn run(judge: &mut Judge, random: &mut Random) {
     for _ in 0..RANDOM_PAIRS {
@@ -20,12 +28,34 @@ pub fn run(judge: &mut Judge, random: &mut Random) {
     small_buffers(judge, random);
 }
 
+/// Lists of any columns there and back; calls for columns that may be refused, and those at the
+/// edges.
+pub fn run_columns(judge: &mut Judge, random: &mut Random) {
+    for [k_row, l_row] in packing::short_rows() {
+        packed_and_back(judge, k_row.len(), &k_row, &l_row, [0, 1, 2]);
+    }
+    for columns in (0..=MOST_COLUMNS).flat_map(|columns| [columns; 3]) {
+        let [k_row, l_row] = packing::random_rows(random, columns);
+        let past = [(); 3].map(|()| packing::random_past(random));
+        packed_and_back(judge, columns, &k_row, &l_row, past);
+    }
+    for _ in 0..RANDOM_CALLS {
+        judge.compare(&packing::random_call(random));
+    }
+    for (call, answer) in packing::edges() {
+        judge.compare_with(&call, &answer);
+    }
+}
+
 fn compare_with_room(judge: &mut Judge, random: &mut Random, k: Scalar, l: Scalar) {
     let exact = 8 * k.bytes.len().max(l.bytes.len()) + 1;
-    let rooms = [(); 4].map(|()| exact + random.pick(&[0, 0, 1, 300]));
+    let past = [(); 4].map(|()| random.pick(&[0, 0, 1, 300]));
+    let rooms = past.map(|past| exact + past);
     let [k_places, l_places, ..] = rooms;
-    judge.compare(&Call::Joint { k: k.clone(), l: l.clone(), k_places, l_places });
+    let joint = judge.compare(&Call::Joint { k: k.clone(), l: l.clone(), k_places, l_places });
     judge.compare(&Call::JointCodes { k, l, rooms });
+    let [k_past, l_past, past, _] = past;
+    packed_form(judge, &joint, [k_past, l_past, past]);
 }
 
 fn every_two_lengths(judge: &mut Judge, random: &mut Random) {
@@ -100,4 +130,44 @@ fn small_buffers(judge: &mut Judge, random: &mut Random) {
             }
         }
     }
+}
+
+/// A joint form packed over its length, and over all places: above the top they pack as 4.
+pub fn packed_form(judge: &mut Judge, joint: &Outcome, past: [usize; 3]) {
+    let [k_row, l_row] = &joint.buffers[..] else {
+        unreachable!("two rows");
+    };
+    let places = k_row.len().min(l_row.len());
+    let length = joint.length().min(places);
+    packed_and_back(judge, length, k_row, l_row, past);
+    let packed = packed_and_back(judge, places, k_row, l_row, past);
+    let what = format_args!("the columns above the top of a joint form of {length}");
+    judge.hold(what, &vec![4; places - length][..], &packed[length..]);
+}
+
+/// Packs so many columns of two rows, unpacks them, and packs them again: the same digits and bytes.
+/// The new rows and the buffer are longer by so many places and bytes.
+fn packed_and_back(
+    judge: &mut Judge,
+    columns: usize,
+    k_row: &[u8],
+    l_row: &[u8],
+    [k_past, l_past, past]: [usize; 3],
+) -> Vec<u8> {
+    let pack = |k_row: &[u8], l_row: &[u8]| {
+        let (k_digits, l_digits) = (k_row.to_vec(), l_row.to_vec());
+        Call::Pack { columns, k_digits, l_digits, room: columns + past }
+    };
+    let packed = judge.compare(&pack(k_row, l_row)).buffers.remove(0);
+    let (k_places, l_places) = (columns + k_past, columns + l_past);
+    let unpack = Call::Unpack { columns, packed: packed.clone(), k_places, l_places };
+    let rows = judge.compare(&unpack).buffers;
+    let unpacked = [&rows[0][..columns], &rows[1][..columns]];
+    let what = format_args!("the rows that were packed, by {unpack}");
+    judge.hold(what, [&k_row[..columns], &l_row[..columns]], unpacked);
+    let again = pack(&rows[0], &rows[1]);
+    let repacked = judge.compare(&again).buffers.remove(0);
+    let what = format_args!("the bytes that were unpacked, by {again}");
+    judge.hold(what, &packed[..columns], &repacked[..columns]);
+    packed[..columns].to_vec()
 }

@@ -1,5 +1,6 @@
 //! Small scalars, where an exhaustive search over digit lists confirms that nothing is lighter.
 
+use super::joint_forms::packed_form;
 use crate::judge::Judge;
 use crate::outcome::{Claim, Outcome};
 use reference::calls::Call;
@@ -54,8 +55,10 @@ fn compare_joint_forms(judge: &mut Judge, columns: &Least) {
             };
             let (k, l) = (Scalar::new([k], ks), Scalar::new([l], ls));
             let coded = Call::JointCodes { k: k.clone(), l: l.clone(), rooms: [9; 4] };
-            judge.compare_claiming(&Call::Joint { k, l, k_places: 9, l_places: 9 }, &claim);
+            let joint = Call::Joint { k, l, k_places: 9, l_places: 9 };
+            let joint = judge.compare_claiming(&joint, &claim);
             judge.compare_claiming(&coded, &claim);
+            packed_form(judge, &joint, [0, 1, 2]);
         }
     }
 }

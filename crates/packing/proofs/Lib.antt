@@ -1,0 +1,2 @@
+pub mod ColumnBytes
+pub mod Laid
