@@ -20,7 +20,7 @@ module _ (what : Stored) where
       ap (λ (t : Bool). stores what b && t) (all-more bs i (le-of-suc-le-suc h)) ∙ sym (and-assoc (stores what b) (allStore what (take i bs)) (stores what (getD bs i 0)))
 
   -- the byte at a place
-  pub all-at : (bs : List ℕ) → allStore what bs ≡ true → (i : ℕ) → i < length bs → stores what (getD bs i 0) ≡ true
+  all-at : (bs : List ℕ) → allStore what bs ≡ true → (i : ℕ) → i < length bs → stores what (getD bs i 0) ≡ true
   unfolding allStore
   all-at [] e i h = absurd (omega arith)
   all-at (b ∷ bs) e zero h = and-eq-true-iff (stores what b) (allStore what bs) .0 e .0

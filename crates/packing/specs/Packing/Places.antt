@@ -21,7 +21,7 @@ row-length-below : (n : ℕ) (s : List ℕ) → n ≤ length s → length (rowBe
 unfolding rowBelow
 row-length-below n s h = length-map (take n s) signed ∙ length-take-le n s h
 
-pub columns-length : (n : ℕ) (k l : List ℕ) → n ≤ length k → n ≤ length l → length (columnsBelow n k l) ≡ n
+columns-length : (n : ℕ) (k l : List ℕ) → n ≤ length k → n ≤ length l → length (columnsBelow n k l) ≡ n
 unfolding columnsBelow
 columns-length n k l h g =
     omega (arith, paired-length (rowBelow n k) (rowBelow n l), row-length-below n k h, row-length-below n l g)
