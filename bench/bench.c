@@ -20,7 +20,10 @@ struct set {
     size_t most_bytes, sheet_bytes;
 };
 
-/* An archive may be older than the calls for rows from the top down, than those for packed columns, and than the gateway's. */
+/*
+ * An archive may be older than the calls for rows from the top down, than those for packed columns, than that for the next limit, and than
+ * the gateway's.
+ */
 #ifdef WITH_DOWN
 #define DOWN(call) call
 #else
@@ -31,10 +34,15 @@ struct set {
 #else
 #define PACKING(call) NULL
 #endif
+#ifdef WITH_NEXT_LIMIT
+#define NEXT_LIMIT(call) call
+#else
+#define NEXT_LIMIT(call) NULL
+#endif
 
 static const struct set card = {
     {sheets_row, DOWN(sheets_row_down), sheets_joint, sheets_joint_codes, sheets_plan_j, sheets_plan_i, DOWN(sheets_plan_i_down),
-     sheets_cheapest, sheets_read, PACKING(sheets_pack), PACKING(sheets_unpack)},
+     sheets_cheapest, sheets_read, PACKING(sheets_pack), PACKING(sheets_unpack), NEXT_LIMIT(sheets_next_limit)},
     &peer_card, 66, SHEETS_BYTES,
 };
 
@@ -42,7 +50,7 @@ static const struct set card = {
 static const struct set gateway = {
     {sheets_gateway_row, DOWN(sheets_gateway_row_down), sheets_gateway_joint, sheets_gateway_joint_codes, sheets_gateway_plan_j,
      sheets_gateway_plan_i, DOWN(sheets_gateway_plan_i_down), sheets_gateway_cheapest, sheets_gateway_read, PACKING(sheets_pack),
-     PACKING(sheets_unpack)},
+     PACKING(sheets_unpack), NULL},
     &peer_gateway, 128, SHEETS_GATEWAY_BYTES,
 };
 #endif
@@ -185,6 +193,12 @@ static uint64_t unpack(const struct calls *c, const struct work *w, const struct
     return c->unpack(in->columns[i], in->packed + i * PLACES, PLACES, out->k_digits, PLACES, out->l_digits, PLACES);
 }
 
+static uint64_t next_limit(const struct calls *c, const struct work *w, const struct inputs *in, size_t i, struct output *out)
+{
+    (void)out;
+    return c->next_limit(k_at(in, i), in->bytes, in->ks, l_at(in, i), in->bytes, in->ls, w->a);
+}
+
 enum { WIDEST = 9, LARGEST = 13 };
 
 static const struct work works[] = {
@@ -206,14 +220,19 @@ static const struct work works[] = {
     {"read, plan I 31, 31", read_sheet, 0, 0, &works[WIDEST]},
     {"pack", pack, 0, 0, NULL},
     {"unpack", unpack, 0, 0, NULL},
+    {"next limit, limit 0", next_limit, 0, 0, NULL},
+    {"next limit, limit 8", next_limit, 8, 0, NULL},
+    {"next limit, limit 16", next_limit, 16, 0, NULL},
 };
 
-/* Whether the archive has the work's call. */
-static int is_there(const struct work *w)
+/* Whether the set has the work's call, in this archive. */
+static int is_there(const struct work *w, const struct set *set)
 {
     if (w->call == pack || w->call == unpack)
-        return card.library.pack != NULL;
-    return card.library.row_down != NULL || (w->call != row_down && w->call != plan_i_down);
+        return set->library.pack != NULL;
+    if (w->call == next_limit)
+        return set->library.next_limit != NULL;
+    return set->library.row_down != NULL || (w->call != row_down && w->call != plan_i_down);
 }
 
 static void fill_sheets(struct inputs *in, const struct work *w, struct output *out)
@@ -301,6 +320,46 @@ static void measure(const struct work *w, const struct inputs *in, struct output
     print_times((struct side){call, &ours}, (struct side){call, &theirs});
 }
 
+/* ---- the next limit beside a cheapest sheet ---- */
+
+/* The limits that are asked. */
+static const uint32_t asked[] = {0, 1, 8, 16, 30, 31};
+
+enum { ASKED = sizeof asked / sizeof *asked };
+
+/* Prints a row for each limit: the library's call beside its cheapest sheet at limit 31, which looks at every plan. All pass in turn. */
+static void measure_next_limits(struct inputs *in, struct output *out)
+{
+    struct work timed[ASKED + 1];
+    struct task tasks[ASKED + 1];
+    struct side sides[ASKED + 1];
+    double ns[ASKED + 1];
+
+    for (size_t i = 0; i <= ASKED; i++) {
+        timed[i] = i < ASKED ? (struct work){"next limit", next_limit, asked[i], 0, NULL} : works[LARGEST];
+        check_signs(&timed[i], in, out);
+        tasks[i] = (struct task){&in->set->library, &timed[i], in, out};
+        sides[i] = (struct side){call, &tasks[i]};
+    }
+    take_times(sides, ASKED + 1, ns);
+    for (size_t i = 0; i < ASKED; i++) {
+        printf("| %u | %zu |", (unsigned)asked[i], in->bytes);
+        print_cells(ns[i], ns[ASKED]);
+    }
+}
+
+static void print_next_limits(struct inputs *in, struct output *out)
+{
+    if (!card.library.next_limit)
+        return;
+    printf("\n| asked limit | bytes | next limit ns | cheapest, limit 31 ns | ratio |\n|---|---|---|---|---|\n");
+    for (size_t i = 0; i < sizeof lengths / sizeof *lengths; i++)
+        if (lengths[i].set->library.next_limit) {
+            fill_scalars(in, lengths[i]);
+            measure_next_limits(in, out);
+        }
+}
+
 int main(void)
 {
     static struct inputs in;
@@ -308,11 +367,14 @@ int main(void)
 
     printf("| work | bytes | library ns | plain C ns | ratio |\n|---|---|---|---|---|\n");
     for (size_t i = 0; i < sizeof works / sizeof *works; i++)
-        for (size_t j = 0; is_there(&works[i]) && j < sizeof lengths / sizeof *lengths; j++) {
+        for (size_t j = 0; j < sizeof lengths / sizeof *lengths; j++) {
+            if (!is_there(&works[i], lengths[j].set))
+                continue;
             fill_scalars(&in, lengths[j]);
             check_signs(&works[i], &in, &out);
             measure(&works[i], &in, &out);
         }
+    print_next_limits(&in, &out);
     print_wnaf();
     return 0;
 }

@@ -30,7 +30,7 @@ static uint64_t refusal(unsigned number, unsigned line)
     return (uint64_t)number << 32 | line;
 }
 
-/* The length written, and the weight or the additions. */
+/* The length written, or the limit that pays, and the weight or the additions. */
 static uint64_t written(size_t length, unsigned count)
 {
     return (uint64_t)count << 16 | length;
@@ -723,6 +723,58 @@ static uint64_t peer_cheapest(const uint8_t *k, size_t kn, uint32_t ks, const ui
     return write_sheet(choose(k_rows, l_rows, joint, limit), &kb, &lb, sheet);
 }
 
+/* ---- the next limit that pays ---- */
+
+/*
+ * For each number of slots the fewest additions of the plans that need just so many; where none does, more than any plan has. The load is
+ * counted for every plan alike.
+ */
+static void fewest_additions(const struct recoded *k_rows, const struct recoded *l_rows, struct recoded joint, unsigned *fewest)
+{
+    memset(fewest, 255, (MOST_SLOTS + 1) * sizeof *fewest);
+    fewest[JOINT_SLOTS] = table_additions(plan_j()) + joint.weight;
+    for (unsigned i = 0; i < WINDOWS; i++)
+        for (unsigned j = 0; j < WINDOWS; j++) {
+            struct plan plan = plan_i(2 * i + 1, 2 * j + 1);
+            unsigned slots = slots_of(plan), additions = table_additions(plan) + k_rows[i].weight + l_rows[j].weight;
+
+            if (additions < fewest[slots])
+                fewest[slots] = additions;
+        }
+}
+
+/* Goes up the limits to the first beyond this one with fewer additions than all below it, and answers both; 0 where there is none. */
+static uint64_t first_fewer(const unsigned *fewest, unsigned limit)
+{
+    unsigned least = fewest[0];
+
+    for (unsigned slots = 1; slots <= MOST_SLOTS; slots++)
+        if (fewest[slots] < least) {
+            least = fewest[slots];
+            if (slots > limit)
+                return written(slots, least - 1);
+        }
+    return 0;
+}
+
+static uint64_t peer_next_limit(const uint8_t *k, size_t kn, uint32_t ks, const uint8_t *l, size_t ln, uint32_t ls, uint32_t limit)
+{
+    struct recoded k_rows[WINDOWS], l_rows[WINDOWS];
+    unsigned fewest[MOST_SLOTS + 1];
+    struct bits kb, lb;
+
+    if (!is_scalar(kn) || !is_scalar(ln))
+        return refusal(1, 0);
+    if (limit > MOST_SLOTS)
+        return refusal(4, 0);
+    kb = bits_of(k, kn, ks);
+    lb = bits_of(l, ln, ls);
+    measure_rows(&kb, MOST_SLOTS, k_rows);
+    measure_rows(&lb, MOST_SLOTS, l_rows);
+    fewest_additions(k_rows, l_rows, measure_joint(&kb, &lb), fewest);
+    return first_fewer(fewest, limit);
+}
+
 /* ---- the reader ---- */
 
 /* A scalar of the header. */
@@ -1081,5 +1133,5 @@ static uint64_t peer_unpack(size_t columns, const uint8_t *packed, size_t room, 
 
 const struct calls CALLS = {
     peer_row,         peer_row_down, peer_joint, peer_joint_codes, peer_plan_j, peer_plan_i,
-    peer_plan_i_down, peer_cheapest, peer_read,  peer_pack,        peer_unpack,
+    peer_plan_i_down, peer_cheapest, peer_read,  peer_pack,        peer_unpack, peer_next_limit,
 };

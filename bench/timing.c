@@ -1,4 +1,4 @@
-/* The times of two sides on the same inputs: the best time of each group counts. */
+/* The times of two sides, or of some more, on the same inputs: the best time of each group counts. */
 #define _POSIX_C_SOURCE 199309L
 
 #include "timing.h"
@@ -46,15 +46,28 @@ static double mean(const struct times *times)
     return sum / INPUTS;
 }
 
-void print_times(struct side ours, struct side theirs)
+void take_times(const struct side *sides, size_t n, double *ns)
 {
-    struct times our_times = {{0}}, their_times = {{0}};
+    struct times times[MOST_SIDES] = {{{0}}};
     double start = now();
 
-    for (int i = 0; i < LEAST_PASSES || now() - start < LEAST_TIME; i++) {
-        pass(ours, &our_times);
-        pass(theirs, &their_times);
-    }
-    printf(" %.0f | %.0f | %.2f |\n", mean(&our_times), mean(&their_times), mean(&our_times) / mean(&their_times));
+    for (int i = 0; i < LEAST_PASSES || now() - start < LEAST_TIME; i++)
+        for (size_t s = 0; s < n; s++)
+            pass(sides[s], &times[s]);
+    for (size_t s = 0; s < n; s++)
+        ns[s] = mean(&times[s]);
+}
+
+void print_cells(double ours, double theirs)
+{
+    printf(" %.0f | %.0f | %.2f |\n", ours, theirs, ours / theirs);
     fflush(stdout);
+}
+
+void print_times(struct side ours, struct side theirs)
+{
+    double ns[2];
+
+    take_times((struct side[]){ours, theirs}, 2, ns);
+    print_cells(ns[0], ns[1]);
 }

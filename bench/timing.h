@@ -1,4 +1,4 @@
-/* The times of two sides on the same inputs. */
+/* The times of two sides, or of some more, on the same inputs. */
 #ifndef TIMING_H
 #define TIMING_H
 
@@ -13,7 +13,15 @@ struct side {
     void *task;
 };
 
-/* Prints the last cells of a table's row: nanoseconds a call of ours, of theirs, and the ratio. The two sides pass in turn. */
+enum { MOST_SIDES = 8 };
+
+/* Nanoseconds a call of each of n sides, MOST_SIDES at most. The sides pass in turn. */
+void take_times(const struct side *sides, size_t n, double *ns);
+
+/* Prints the last cells of a table's row: nanoseconds a call of ours, of theirs, and the ratio. */
+void print_cells(double ours, double theirs);
+
+/* The same for two sides that pass in turn. */
 void print_times(struct side ours, struct side theirs);
 
 #endif

@@ -14,9 +14,10 @@
  * Every call returns 64 bits. Bits 32 to 63, sheets_number, are the number of the question missed, 0 where none is. Below them a call
  * that writes a row, a joint form or a sheet has two numbers, both 0 where a question is missed: in bits 0 to 15, sheets_length, the length
  * written; in bits 16 to 31 for a row or a joint form, sheets_weight, how many of its digits, or of its columns, are not zero, and for a
- * sheet, sheets_additions, its additions, those that fill the table included. sheets_read has in bits 0 to 31, sheets_line, the line at
- * fault, 0 where the sheet is accepted. sheets_pack and sheets_unpack have 0 there. Questions are asked in the order given at each call, and
- * the first one missed is the answer:
+ * sheet, sheets_additions, its additions, those that fill the table included. sheets_next_limit has the limit that pays in bits 0 to 15,
+ * sheets_limit, and its additions in bits 16 to 31, sheets_additions. sheets_read has in bits 0 to 31, sheets_line, the line at fault, 0 where
+ * the sheet is accepted. sheets_pack and sheets_unpack have 0 there. Questions are asked in the order given at each call, and the first one
+ * missed is the answer:
  *
  *    1   has each scalar 1 to 66 bytes?
  *    2   is each window odd, 1 to 31?
@@ -114,6 +115,13 @@ uint64_t sheets_cheapest(const uint8_t *k, size_t kn, uint32_t ks, const uint8_t
                          size_t room);
 
 /*
+ * How many more slots would pay: the smallest limit above this one, up to 31, at which the cheapest sheet has fewer additions, and how many
+ * it has there. Questions 1, 4. The limit and the additions are 0 where none pays; a limit that pays is never 0. This is the card's call, and
+ * the gateway has none.
+ */
+uint64_t sheets_next_limit(const uint8_t *k, size_t kn, uint32_t ks, const uint8_t *l, size_t ln, uint32_t ls, uint32_t limit);
+
+/*
  * Judges a sheet, whatever its n bytes are: 0 if it is accepted for the scalars of its header; else the number of the question missed
  * and the line at fault, counted from 1:
  *
@@ -160,6 +168,7 @@ uint64_t sheets_gateway_read(const uint8_t *sheet, size_t n);
 /* The parts of an answer. */
 static inline uint32_t sheets_number(uint64_t answer) { return (uint32_t)(answer >> 32); }
 static inline uint32_t sheets_length(uint64_t answer) { return (uint32_t)(answer & 0xffffu); }
+static inline uint32_t sheets_limit(uint64_t answer) { return (uint32_t)(answer & 0xffffu); }
 static inline uint32_t sheets_weight(uint64_t answer) { return (uint32_t)((answer >> 16) & 0xffffu); }
 static inline uint32_t sheets_additions(uint64_t answer) { return (uint32_t)((answer >> 16) & 0xffffu); }
 static inline uint32_t sheets_line(uint64_t answer) { return (uint32_t)(answer & 0xffffffffu); }

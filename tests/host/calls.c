@@ -2,7 +2,8 @@
  * Calls every function of sheets.h with good and bad input, and checks the answers and every byte of the buffers: against the samples
  * of the scope document, and for other scalars by reading the digits back and counting those that are not 0; with every pair of signs.
  * All this by the card's calls and by the gateway's, each at its own limits; then both sets at the limits of either. What has to do with
- * rows is done once more with rows from the top down. Columns are packed and unpacked, those of joint forms and others.
+ * rows is done once more with rows from the top down. Columns are packed and unpacked, those of joint forms and others. The next limit that
+ * pays is asked at every limit, beside the cheapest sheets there.
  */
 #include "sheets.h"
 
@@ -86,6 +87,7 @@ static void refused(uint64_t answer, uint32_t number, int line)
 {
     check(answer == (uint64_t)number << 32 && sheets_number(answer) == number, "the question missed", line);
     check(sheets_length(answer) == 0 && sheets_weight(answer) == 0 && sheets_additions(answer) == 0, "no length and no weight", line);
+    check(sheets_limit(answer) == 0, "no limit", line);
 }
 
 /* The parts of made-up answers, of which none runs into another. */
@@ -95,12 +97,14 @@ static void parts(void)
     unsigned bit;
     CHECK(sheets_number(all) == 0x89abcdef && sheets_line(all) == 0x76543210);
     CHECK(sheets_length(all) == 0x3210 && sheets_weight(all) == 0x7654 && sheets_additions(all) == 0x7654);
+    CHECK(sheets_limit(all) == 0x3210);
     CHECK(sheets_number(late) == 11 && sheets_line(late) == 0x12345);
     for (bit = 0; bit < 64; bit++) {
         uint64_t answer = UINT64_C(1) << bit;
         CHECK(sheets_length(answer) == (bit < 16 ? answer : 0));
         CHECK(sheets_weight(answer) == (16 <= bit && bit < 32 ? answer >> 16 : 0));
         CHECK(sheets_additions(answer) == sheets_weight(answer));
+        CHECK(sheets_limit(answer) == (bit < 16 ? answer : 0));
         CHECK(sheets_line(answer) == (bit < 32 ? answer : 0));
         CHECK(sheets_number(answer) == (32 <= bit ? answer >> 32 : 0));
     }
@@ -1346,6 +1350,219 @@ static void sheets(void)
     negative_sheets();
 }
 
+/* ---- the next limit that pays ---- */
+
+/* The card's call alone; the gateway has none. */
+enum { LARGEST_LIMIT = 31 };
+
+static uint64_t next_limit(struct bytes k, struct bytes l, uint32_t limit)
+{
+    return sheets_next_limit(k.at, k.n, k.sign, l.at, l.n, l.sign, limit);
+}
+
+/* An answer that is to be this limit and its additions, or 0 and 0 where none pays: every bit of it, and each part. */
+static void pays(uint64_t answer, uint32_t limit, uint32_t additions, int line)
+{
+    check(answer == ((uint64_t)additions << 16 | limit), "the limit that pays and its additions", line);
+    check(sheets_number(answer) == 0 && sheets_limit(answer) == limit && sheets_additions(answer) == additions, "each part of them", line);
+}
+
+/* The additions of the cheapest sheet under a limit. */
+static uint32_t cheapest_additions(struct bytes k, struct bytes l, uint32_t limit, int line)
+{
+    static uint8_t sheet[SHEETS_BYTES];
+    uint64_t answer = sheets_cheapest(k.at, k.n, k.sign, l.at, l.n, l.sign, limit, sheet, sizeof sheet);
+    check(sheets_number(answer) == 0, "there is a cheapest sheet", line);
+    return sheets_additions(answer);
+}
+
+/* Additions that the cheapest sheet has from a limit on. */
+struct fall {
+    uint32_t limit, additions;
+};
+
+/* Scalars whose cheapest sheet has these additions, each from its limit on, the first from 0: every limit asked. */
+static void falls_are(struct bytes k, struct bytes l, const struct fall *falls, size_t n, int line)
+{
+    size_t next = 0;
+    uint32_t limit;
+    for (limit = 0; limit <= LARGEST_LIMIT; limit++) {
+        next += next < n && falls[next].limit == limit;
+        check(cheapest_additions(k, l, limit, line) == falls[next - 1].additions, "the additions at the limit", line);
+        pays(next_limit(k, l, limit), next < n ? falls[next].limit : 0, next < n ? falls[next].additions : 0, line);
+    }
+    check(next == n, "they fall so often", line);
+    check(only_read(k) & only_read(l), "the scalars are only read", line);
+}
+
+#define FALLS(k, l, ...) \
+    falls_are((k), (l), (const struct fall[]){__VA_ARGS__}, sizeof(const struct fall[]){__VA_ARGS__} / sizeof(struct fall), __LINE__)
+
+/* The smallest limit that is larger, and at which there are fewer additions; 0 where there is none. */
+static uint32_t paying_limit(const uint32_t *additions, uint32_t limit)
+{
+    uint32_t larger;
+    for (larger = limit + 1; larger <= LARGEST_LIMIT; larger++)
+        if (additions[larger] < additions[limit])
+            return larger;
+    return 0;
+}
+
+/* Every limit asked, beside the cheapest sheets of all limits. */
+static void every_limit(struct bytes k, struct bytes l, int line)
+{
+    uint32_t additions[LARGEST_LIMIT + 1], limit;
+    for (limit = 0; limit <= LARGEST_LIMIT; limit++)
+        additions[limit] = cheapest_additions(k, l, limit, line);
+    for (limit = 0; limit <= LARGEST_LIMIT; limit++) {
+        uint32_t larger = paying_limit(additions, limit);
+        pays(next_limit(k, l, limit), larger, larger == 0 ? 0 : additions[larger], line);
+    }
+    check(next_limit(k, l, LARGEST_LIMIT) == 0, "none is larger than the largest", line);
+    check(only_read(k) & only_read(l), "the scalars are only read", line);
+}
+
+/* With every two signs the same answer. */
+static void signed_next_limit(struct bytes k, struct bytes l, uint32_t limit, uint32_t paying, uint32_t additions, int line)
+{
+    size_t i;
+    for (i = 0; i < SIGNS * SIGNS; i++)
+        pays(next_limit(with_sign(k, signs[i / SIGNS]), with_sign(l, signs[i % SIGNS]), limit), paying, additions, line);
+    check(only_read(k) & only_read(l), "the scalars are only read", line);
+}
+
+/* Scalars between guard bytes have the answer that they have elsewhere, and no byte is changed; one scalar may be handed in twice. */
+static void next_limit_between(struct bytes k, struct bytes l, uint32_t limit, int line)
+{
+    uint8_t *p = lend(&first), *q = lend(&second);
+    memcpy(p, k.at, k.n);
+    memcpy(q, l.at, l.n);
+    check(sheets_next_limit(p, k.n, k.sign, q, l.n, l.sign, limit) == next_limit(k, l, limit), "the same between guard bytes", line);
+    check(memcmp(p, k.copy, k.n) == 0 && memcmp(q, l.copy, l.n) == 0, "the scalars are only read there", line);
+    check(kept(&first, k.n) && kept(&second, l.n), "no other byte", line);
+    check(sheets_next_limit(p, k.n, k.sign, k.at, k.n, l.sign, limit) == next_limit(k, with_sign(k, l.sign), limit), "one scalar twice", line);
+    check(only_read(k) & only_read(l), "the scalars are only read", line);
+}
+
+static void next_limit_refused(struct bytes k, struct bytes l, uint32_t limit, uint32_t number, int line)
+{
+    refused(next_limit(k, l, limit), number, line);
+    check(only_read(k) & only_read(l), "the scalars are only read", line);
+}
+
+#define NEXT_LIMIT_REFUSED(k, l, limit, number) next_limit_refused((k), (l), (limit), (number), __LINE__)
+
+/*
+ * A scalar of 66 bytes with a number below 32 in every second byte: this one in the first n of them, the other in the rest. They are so far
+ * apart that each has digits of its own in a row: 21 three for window 1, two for windows 3 to 19, and one beyond; 29 three for window 1, two
+ * for windows 3 to 27, and one beyond; 31 two for windows 1 to 29, and one for window 31.
+ */
+static struct bytes apart(uint8_t number, size_t n, uint8_t other)
+{
+    uint8_t all[66] = {0};
+    size_t i;
+    for (i = 0; i < 33; i++)
+        all[2 * i + 1] = i < n ? number : other;
+    return bytes_of(all, sizeof all);
+}
+
+/* Samples worked out by hand. */
+static void next_limit_samples(void)
+{
+    /* none pays: nothing to add; one addition, by window 1 and, with a doubling fewer, by 3; two scalars of two digits each, also in J */
+    FALLS(byte(0), byte(0), {0, 0});
+    FALLS(byte(3), byte(0), {0, 1});
+    FALLS(filled(255, 66), byte(0), {0, 1});
+    FALLS(filled(255, 66), filled(255, 66), {0, 3});
+
+    /* 45 has four digits for window 1, and 3 * 16 - 3 needs two slots; three times 5 has six for windows 1 and 3, and three for 5 */
+    FALLS(byte(45), byte(0), {0, 3}, {2, 2});
+    FALLS(byte(0), byte(45), {0, 3}, {2, 2});
+    FALLS(bytes_of((const uint8_t *)"\5\5\5", 3), byte(0), {0, 5}, {3, 4});
+
+    /* 33 times 21 by windows 1, 3 and 21, in either scalar; in both by windows 1, by J and by windows 21 */
+    FALLS(apart(21, 33, 21), byte(0), {0, 98}, {2, 66}, {11, 42});
+    FALLS(byte(0), apart(21, 33, 21), {0, 98}, {2, 66}, {11, 42});
+    FALLS(apart(21, 33, 21), apart(21, 33, 21), {0, 197}, {2, 100}, {21, 85});
+
+    /* 29s and 31s in both by windows 1, by J and, at the last limits, by windows 29, 29, by 31, 29 and by 31, 31; or by the last of these alone */
+    FALLS(apart(29, 31, 31), apart(29, 31, 31), {0, 193}, {2, 98}, {29, 97}, {30, 96}, {31, 95});
+    FALLS(apart(29, 30, 31), apart(29, 30, 31), {0, 191}, {2, 97}, {31, 95});
+
+    /* leading zero bytes */
+    FALLS(bytes_of((const uint8_t *)"\0\0\x2d", 3), filled(0, 66), {0, 3}, {2, 2});
+    FALLS(filled(0, 66), bytes_of((const uint8_t *)"\0\5\5\5", 4), {0, 5}, {3, 4});
+}
+
+/* The samples with every two signs, and zero with a minus; refusals with every sign. */
+static void negative_next_limits(void)
+{
+    size_t i;
+    signed_next_limit(byte(0), filled(0, 66), 0, 0, 0, __LINE__);
+    signed_next_limit(byte(3), byte(0), 0, 0, 0, __LINE__);
+    signed_next_limit(byte(45), byte(0), 1, 2, 2, __LINE__);
+    signed_next_limit(byte(0), byte(45), 0, 2, 2, __LINE__);
+    signed_next_limit(byte(45), byte(45), 31, 0, 0, __LINE__);
+    signed_next_limit(apart(21, 33, 21), apart(21, 33, 21), 2, 21, 85, __LINE__);
+    for (i = 0; i < SIGNS; i++) {
+        NEXT_LIMIT_REFUSED(with_sign(filled(1, 67), signs[i]), with_sign(byte(2), signs[i]), 31, 1);
+        NEXT_LIMIT_REFUSED(with_sign(byte(7), signs[i]), with_sign(filled(1, 0), signs[i]), 32, 1);
+        NEXT_LIMIT_REFUSED(with_sign(byte(7), signs[i]), with_sign(byte(2), signs[i]), 32, 4);
+    }
+}
+
+static void next_limits(void)
+{
+    static const uint32_t beyond[] = {32, 33, 255, 256, 287, 65536, 65567, 2147483648u, 4294967295u};
+    unsigned value;
+    size_t n, i;
+
+    next_limit_samples();
+
+    /* scalars of one byte, the longest, and scalars of every length */
+    for (value = 0; value < 256; value++)
+        every_limit(byte((uint8_t)value), byte((uint8_t)(7 * value + 3)), __LINE__);
+    every_limit(filled(255, 66), heavy(), __LINE__);
+    every_limit(minus(heavy()), heavy(), __LINE__);
+    every_limit(repeated(0x24, 0x92, 0x49), repeated(0x49, 0x24, 0x92), __LINE__);
+    for (n = 1; n <= 66; n++)
+        every_limit(any_scalar(n), any_scalar(67 - n), __LINE__);
+
+    /* the scalars are only read, and no byte beside them */
+    next_limit_between(byte(45), byte(0), 0, __LINE__);
+    next_limit_between(filled(255, 66), minus(heavy()), 8, __LINE__);
+    for (n = 1; n <= 66; n += 13)
+        next_limit_between(any_scalar(n), any_scalar(67 - n), next_number() % 32, __LINE__);
+    next_limit_between(filled(1, 67), byte(7), 0, __LINE__);
+    next_limit_between(byte(7), byte(2), 32, __LINE__);
+
+    /* 1. has each scalar 1 to 66 bytes? */
+    NEXT_LIMIT_REFUSED(filled(1, 0), byte(2), 0, 1);
+    NEXT_LIMIT_REFUSED(byte(7), filled(1, 0), 0, 1);
+    NEXT_LIMIT_REFUSED(filled(1, 67), byte(2), 0, 1);
+    NEXT_LIMIT_REFUSED(byte(7), filled(1, 67), 0, 1);
+    NEXT_LIMIT_REFUSED(filled(0, 67), filled(0, 67), 31, 1);
+    NEXT_LIMIT_REFUSED(filled(255, 128), filled(255, 66), 31, 1);
+    NEXT_LIMIT_REFUSED(filled(255, 66), filled(255, 1000), 31, 1);
+
+    /* 4. is the limit at most 31? 1 comes before it */
+    for (i = 0; i < sizeof beyond / sizeof *beyond; i++) {
+        NEXT_LIMIT_REFUSED(byte(7), byte(2), beyond[i], 4);
+        NEXT_LIMIT_REFUSED(filled(255, 66), filled(255, 66), beyond[i], 4);
+        NEXT_LIMIT_REFUSED(filled(1, 0), byte(2), beyond[i], 1);
+        NEXT_LIMIT_REFUSED(byte(7), filled(1, 0), beyond[i], 1);
+        NEXT_LIMIT_REFUSED(filled(1, 67), byte(2), beyond[i], 1);
+        NEXT_LIMIT_REFUSED(byte(7), filled(1, 67), beyond[i], 1);
+    }
+
+    /* no scalar at all */
+    CHECK(sheets_next_limit(NULL, 0, 0, NULL, 0, 0, 0) == (uint64_t)1 << 32);
+    CHECK(sheets_next_limit(NULL, 0, 1, NULL, 0, 2, 32) == (uint64_t)1 << 32);
+    CHECK(sheets_next_limit((const uint8_t *)"\7", 1, 0, NULL, 0, 0, 31) == (uint64_t)1 << 32);
+    CHECK(sheets_next_limit(NULL, 0, 0, (const uint8_t *)"\2", 1, 256, 4294967295u) == (uint64_t)1 << 32);
+    negative_next_limits();
+}
+
 /* ---- the reader ---- */
 
 static void read_is(struct bytes sheet, uint32_t number, uint32_t at, int line)
@@ -1791,6 +2008,7 @@ int main(void)
     }
     by = &card;
     columns();
+    next_limits();
     scalar_limits(&card, &gateway);
     scalar_limits(&card_down, &gateway_down);
     reading_limits();

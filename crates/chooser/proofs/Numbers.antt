@@ -1,6 +1,6 @@
 -- The plan with a number: the list of all plans, counted from 0.
 use mathlib.Core.Path.{_≡_, refl, sym, ap, _∙_}
-use mathlib.Core.Bool.{cond}
+use mathlib.Core.Bool.{Bool, true, false, cond}
 use mathlib.Core.List.{List, map}
 use Prim.Native.Nat.{ℕ, _+_, _-_, _*_, _/_, _%_, _<_}
 use native.Mathlib.Omega.{arith}
@@ -9,7 +9,8 @@ use lib.Dec.{eqb}
 use lib.ListN.{length, getD}
 use Rattle.sheet.specs.declared.Plan.{Plan}
 use Rattle.sheet.specs.declared.Plan.the-variants.{J, I}
-use Rattle.sheet.specs.Plan.{odds}
+use Rattle.sheet.specs.Plan.Slots.{slots-most}
+use Rattle.sheet.specs.Plan.{odds, slots}
 use Rattle.chooser.specs.Cheapest.{plans, interleaved}
 use Rattle.chooser.specs.Numbers.{from, from-at}
 
@@ -34,3 +35,11 @@ other-plan n h z = sym (plan-number n h ∙ rw (ne-eqb n 0 z))
 pub plans-length : length plans ≡ 257
 unfolding plans interleaved odds
 plans-length = refl
+
+-- none needs more than 31 slots
+pub plan-slots : (n : ℕ) → n < 257 → slots (getD plans n J) < 32
+plan-slots n h = rw (plan-number n h) (go (eqb n 0))
+  where
+    go : (b : Bool) → slots (cond b J (I (2 * ((n - 1) / 16) + 1) (2 * ((n - 1) % 16) + 1))) < 32
+    go true = omega arith
+    go false = omega (arith, slots-most (2 * ((n - 1) / 16) + 1) (2 * ((n - 1) % 16) + 1) (omega arith) (omega arith))

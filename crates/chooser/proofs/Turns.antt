@@ -21,9 +21,9 @@ use Rattle.sheet.specs.Sound.{Window}
 use Rattle.written.specs.Promise.{written-cost, written-doublings}
 use Rattle.written.specs.Valid.{Valid, forJ, forI}
 use Rattle.written.specs.Written.Columns.{paired-weight}
-use Rattle.written.specs.Written.{digits}
+use Rattle.written.specs.Written.{digits, writtenAdditions}
 use Rattle.chooser.specs.Cheapest.{cheapestPlan, keyWith, key, plans, within}
-use Rattle.chooser.specs.Body.Choice.{planWeight, planPlaces, costKey}
+use Rattle.chooser.specs.Body.Choice.{planWeight, planPlaces, planAdditions, costKey}
 use Rattle.chooser.specs.Cheapest.Least.{smallest, within-valid}
 use Rattle.chooser.specs.Cheapest.Lists.{within-in}
 use Rattle.chooser.specs.Candidate.Turns.{take-one}
@@ -71,11 +71,14 @@ module _ (limit k l : ℕ) where
       let s = window-slots m1 m2 (omega (arith, v .odd)) (omega (arith, w .odd)) in
       ap₂ (λ (a b : ℕ). max a b) (window-size k m1 v (omega arith) .0) (window-size l m2 w (omega arith) .0) ∙ sym (paired-length (row m1 (pos k)) (row m2 (pos l)))
 
+  pub additions-agree : {p : Plan} → Valid p → slots p ≤ limit → planAdditions p (rowSizes limit k) (rowSizes limit l) (jointSize limit k l) ≡ writtenAdditions p (pos k) (pos l)
+  additions-agree {p} v h = ap (λ (w : ℕ). tableAdditions p + (w - 1)) (plan-weighed v h) ∙ sym (written-cost p (pos k) (pos l) v)
+
   key-agrees : (p : Plan) → Valid p → slots p ≤ limit → costKey (rowSizes limit k) (rowSizes limit l) (jointSize limit k l) p ≡ key (pos k) (pos l) p
   unfolding costKey key
   key-agrees p v h =
       ap₂ (λ (a d : ℕ). keyWith a d p)
-      (ap (λ (w : ℕ). tableAdditions p + (w - 1)) (plan-weighed v h) ∙ sym (written-cost p (pos k) (pos l) v))
+      (additions-agree v h)
       (ap (λ (n : ℕ). tableDoublings p + (n - 1)) (plan-placed v h) ∙ sym (written-doublings p (pos k) (pos l) v))
 
   -- the least plan by sizes is the cheapest

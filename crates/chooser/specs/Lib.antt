@@ -5,4 +5,6 @@ pub mod Candidate
 pub mod Samples
 pub mod Demand3
 pub mod Call
+pub mod Next
+pub mod Promise
 pub mod Body

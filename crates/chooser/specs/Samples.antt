@@ -1,5 +1,5 @@
 -- Samples of the order between plans, in which each part of it decides: one table of headers of cheapest sheets, by one computed
--- test.
+-- test. And of the next limit that pays: another table, by another test.
 use mathlib.Core.Path.{_≡_}
 use mathlib.Core.List.{List, [], _∷_, List·Memᴰ}
 use Prim.Native.Nat.{ℕ}
@@ -13,7 +13,7 @@ use Rattle.digits.specs.Two.{paired}
 use Rattle.forms.specs.Residue.{residue, width}
 use Rattle.forms.specs.Row
 use Rattle.forms.specs.Joint
-use Rattle.forms.specs.Test.{Test, equal, sameList, everyOf}
+use Rattle.forms.specs.Test.{Test, both, equal, sameList, everyOf}
 use Rattle.sheet.specs.Ascii.{ascii}
 use Rattle.sheet.specs.Numeral.{numeralIn, numeral}
 use Rattle.sheet.specs.Plan.{odds}
@@ -23,11 +23,15 @@ use Rattle.sheet.specs.Spelling.{lineFeed, join, spell, cut}
 use Rattle.written.specs.Written.{digits, addAll, movesOf, stepsOf, linesOf, additionsOf, doublingsOf, sheetOf}
 use Rattle.chooser.specs.Cheapest.{interleaved, plans, within, key, cheapestPlan, cheapest}
 use Rattle.chooser.specs.Lexicographic.{before, least}
+use Rattle.chooser.specs.Next.{firstBelow, nextLimit, limitTold, additionsTold}
+use Rattle.chooser.specs.declared.next.NextLimit.{NextLimit}
 
--- the cheapest sheet, with every definition that it computes by
-unfoldable pub computed : ℤ → ℤ → ℕ → List ℕ
-unfolding Row.row Row.rowIn Row.digit Row.rest residue width bitLength bitLengthIn half Joint.joint Joint.jointIn Joint.column Joint.digit Joint.rest numeralIn numeral odds additions doublings moveLines sheetLines join spell cut paired digits addAll movesOf stepsOf linesOf additionsOf doublingsOf sheetOf interleaved plans within key cheapestPlan cheapest before least
-computed k l limit = cheapest k l limit
+-- the cheapest sheet and the next limit, with every definition that they compute by
+unfoldable pub computed : ℤ → ℤ → ℕ → List ℕ × NextLimit
+unfolding Row.row Row.rowIn Row.digit Row.rest residue width bitLength bitLengthIn half Joint.joint Joint.jointIn Joint.column Joint.digit Joint.rest numeralIn numeral odds additions doublings moveLines sheetLines join spell cut paired digits addAll movesOf stepsOf linesOf additionsOf doublingsOf sheetOf interleaved plans within key cheapestPlan cheapest before least firstBelow nextLimit
+computed k l limit = (cheapest k l limit, nextLimit k l limit)
+
+-- ── plans ───────────────────────────────────────────────────────────────────────────────────
 
 -- a sample: the first line of the cheapest sheet for k and l under a limit
 pub data Sample : Type 0 where
@@ -71,3 +75,47 @@ table = tt
 -- each sample of the table is true
 pub samples-hold : (s : Sample) → List·Memᴰ s samples → Says s
 samples-hold = everyOf sample samples .tells table
+
+-- ── limits ──────────────────────────────────────────────────────────────────────────────────
+
+-- a sample: for k and l and a limit the next one that pays and its additions, or 0 and 0
+pub record LimitSample : Type 0 where
+  pub k : ℕ
+  pub l : ℕ
+  pub limit : ℕ
+  pub next : ℕ
+  pub additions : ℕ
+
+-- what it says
+abbrev pub LimitSays : LimitSample → Type 0
+LimitSays s =
+    (limitTold (nextLimit (pos (s .k)) (pos (s .l)) (s .limit)) ≡ s .next)
+    × (additionsTold (nextLimit (pos (s .k)) (pos (s .l)) (s .limit)) ≡ s .additions)
+
+abbrev from : ℕ → ℕ → ℕ → ℕ → ℕ → LimitSample
+from k l limit next additions = record { k = k; l = l; limit = limit; next = next; additions = additions }
+
+abbrev pub limits : List LimitSample
+limits =
+    -- the very next limit pays, and the one behind it
+    from 0x5a 0x2d 2 3 5
+    ∷ from 0x2d 0 1 2 2
+    ∷ from 0x2d 0 0 2 2
+    -- none: as many additions, though fewer doublings, at 2; the highest limit
+    ∷ from 3 0 0 0 0
+    ∷ from 0x5a 0x2d 31 0 0
+    ∷ []
+
+-- the test of a sample
+abbrev limited : (s : LimitSample) → Test (LimitSays s)
+limited s =
+    both (equal (limitTold (nextLimit (pos (s .k)) (pos (s .l)) (s .limit))) (s .next))
+    (equal (additionsTold (nextLimit (pos (s .k)) (pos (s .l)) (s .limit))) (s .additions))
+
+limit-table : T (everyOf limited limits .test)
+unfolding computed
+limit-table = tt
+
+-- each sample of the table is true
+pub limits-hold : (s : LimitSample) → List·Memᴰ s limits → LimitSays s
+limits-hold = everyOf limited limits .tells limit-table

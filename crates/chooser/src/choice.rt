@@ -9,12 +9,15 @@ ghost use Rattle.sheet.specs.declared.Plan.{Plan};
 ghost use Rattle.sheet.specs.Plan.{isWithin};
 ghost use Rattle.written.specs.Written.{first};
 ghost use Rattle.chooser.specs.Cheapest.{cheapestPlan, plans, rank, within};
-ghost use Rattle.chooser.specs.Body.Choice.{planWeight, planPlaces, costKey, Enough};
+ghost use Rattle.chooser.specs.Body.Choice.{planWeight, planPlaces, planAdditions, costKey, Enough};
 ghost use Rattle.chooser.specs.Candidate.{costWith, keyOf, either};
 ghost use Rattle.chooser.specs.Candidate.Turns.{Stands};
 ghost use Rattle.chooser.specs.Lexicographic.{before, better, least};
 use crate::sizes::Size;
 use sheet::Plan;
+
+// How many plans there are: J, and I with each of 16 windows for P and for Q.
+pub const PLANS: u32 = 257;
 
 // What decides between plans, in order.
 pub struct Cost {
@@ -155,17 +158,24 @@ fn first_of(plan: Plan) -> u32
     }
 }
 
-// The cost of a plan, from the sizes of the scalars' rows.
+// The additions of a plan, from the sizes of the scalars' rows.
+pub fn additions_of(plan: Plan, k: &[u32], l: &[u32], joint: Size) -> u64
+    ensures { λ r. ⌜ r ≡ planAdditions plan (now (k .entry)) (now (l .entry)) joint ⌝ }
+{
+    plan.table_additions() as u64 + less_one(plan_weight(plan, k, l, joint))
+}
+
+// Its cost.
 fn cost_of(plan: Plan, k: &[u32], l: &[u32], joint: Size) -> Cost
     ensures { λ r. ⌜ keyOf r ≡ costKey (now (k .entry)) (now (l .entry)) joint plan ⌝ }
 {
-    let additions = plan.table_additions() as u64 + less_one(plan_weight(plan, k, l, joint));
+    let additions = additions_of(plan, k, l, joint);
     let doublings = plan.table_doublings() as u64 + less_one(plan_places(plan, k, l, joint) as u64);
     Cost::of(plan, additions, doublings)
 }
 
 // The n-th plan: J, and then the plans I by m1 and by m2.
-fn plan_at(n: u32) -> Plan
+pub fn plan_at(n: u32) -> Plan
     requires { ⌜ n < 257 ⌝ }
     ensures { λ r. ⌜ r ≡ getD plans n Plan.J ⌝ }
 {
@@ -187,7 +197,7 @@ fn plans_to_try(limit: u32) -> u32
     if limit < 16 {
         return 16 * limit + 1;
     }
-    257
+    PLANS
 }
 
 // The better of the best plan so far and the next one, which may need more slots than the limit.

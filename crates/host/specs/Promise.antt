@@ -1,7 +1,8 @@
 -- What the C host can rely on: the parts that sheets.h takes out of the number that a call returns are the number of the question missed,
--- and the length and the weight, or the additions, of what was written, or the reader's line, whatever was asked. And that the rows of a
--- joint call can always be packed.
+-- and the length and the weight, or the additions, of what was written, or the limit that pays and its additions, or the reader's line, whatever
+-- was asked. And that the rows of a joint call can always be packed.
 use mathlib.Core.Path.{_≡_, refl, ap, ap₂, _∙_}
+use mathlib.Core.Logic.{_↔_}
 use mathlib.Core.List.{List}
 use Prim.Native.Nat.{ℕ, _-_, _≤_}
 use native.Mathlib.Omega.{arith}
@@ -28,6 +29,10 @@ use Rattle.writer.specs.Call as Writing
 use Rattle.writer.specs.Call.{jAnswer, iAnswer, iDownAnswer}
 use Rattle.writer.specs.declared.answer.Sheet.{Sheet}
 use Rattle.chooser.specs.Call.{cheapestAnswer}
+use Rattle.chooser.specs.Next as Choosing
+use Rattle.chooser.specs.Next.{nextAnswer}
+use Rattle.chooser.specs.declared.next.NextLimit.{NextLimit}
+use Rattle.chooser.specs.declared.next.NextLimit.the-variants as nexts
 use Rattle.sheet.specs.Answer.{answer}
 use Rattle.reader.specs.Judgement.{judgement}
 use Rattle.reader.specs.declared.judge.Judgement.{Judgement}
@@ -39,18 +44,21 @@ use Rattle.host.specs.Told.{
   RecodedFits,
   toldSheet,
   SheetFits,
+  toldNext,
+  NextFits,
   number,
   line,
   toldJudgement,
   toldPacking,
   sheetsNumber,
   sheetsLength,
+  sheetsLimit,
   sheetsWeight,
   sheetsAdditions,
   sheetsLine,
 }
 use Rattle.host.specs.Told.Lines.{line-within}
-use Rattle.host.specs.Told.Parts.{Tellable, row-fits, down-fits, joint-fits, codes-fits, j-fits, i-fits, i-down-fits, cheapest-fits}
+use Rattle.host.specs.Told.Parts.{Tellable, row-fits, down-fits, joint-fits, codes-fits, j-fits, i-fits, i-down-fits, cheapest-fits, next-fits, Larger, next-larger}
 
 -- a row or a joint form
 pub record RecodedParts (r : Recoded) : Type 0 where
@@ -63,6 +71,12 @@ pub record SheetParts (s : Sheet) : Type 0 where
   pub number-is : sheetsNumber (toldSheet s) ≡ Writing.number s
   pub length-is : sheetsLength (toldSheet s) ≡ Writing.bytesWritten s
   pub additions-are : sheetsAdditions (toldSheet s) ≡ Writing.additions s
+
+-- a limit that pays
+pub record NextParts (n : NextLimit) : Type 0 where
+  pub number-is : sheetsNumber (toldNext n) ≡ Choosing.nextNumber n
+  pub limit-is : sheetsLimit (toldNext n) ≡ Choosing.limitTold n
+  pub additions-are : sheetsAdditions (toldNext n) ≡ Choosing.additionsTold n
 
 -- a sheet that is read
 pub record JudgementParts (j : Judgement) : Type 0 where
@@ -82,6 +96,9 @@ module _ (n : ℕ) {length count : ℕ} (h : Fits length count) where
   below : sheetsLength (numbered n (joined length count)) ≡ length
   below = omega (arith, h .length-fits, h .count-fits)
 
+  limit-below : sheetsLimit (numbered n (joined length count)) ≡ length
+  limit-below = omega (arith, h .length-fits, h .count-fits)
+
   between : sheetsWeight (numbered n (joined length count)) ≡ count
   between = omega (arith, h .length-fits, h .count-fits)
 
@@ -92,6 +109,10 @@ recoded-parts r h =
 sheet-parts : (s : Sheet) → SheetFits s → SheetParts s
 sheet-parts s h =
     record { number-is = above (Writing.number s) h; length-is = below (Writing.number s) h; additions-are = between (Writing.number s) h }
+
+told-parts : (n : NextLimit) → NextFits n → NextParts n
+told-parts n h =
+    record { number-is = above (Choosing.nextNumber n) h; limit-is = limit-below (Choosing.nextNumber n) h; additions-are = between (Choosing.nextNumber n) h }
 
 -- under the card's limits, and under the gateway's:
 module _ (limits : Limits) (tellable : Tellable limits) where
@@ -129,9 +150,24 @@ module _ (limits : Limits) (tellable : Tellable limits) where
     pub cheapest-parts : (limit room : ℕ) → SheetParts (cheapestAnswer limits k k-sign l l-sign limit room)
     cheapest-parts limit room = sheet-parts (cheapestAnswer limits k k-sign l l-sign limit room) (cheapest-fits limits tellable k k-sign l l-sign k-bytes l-bytes limit room)
 
+    -- the next limit
+    pub next-parts : (limit : ℕ) → NextParts (nextAnswer limits k k-sign l l-sign limit)
+    next-parts limit = told-parts (nextAnswer limits k k-sign l l-sign limit) (next-fits limits tellable k k-sign l l-sign k-bytes l-bytes limit)
+
   -- a sheet that is read
   pub read-parts : (s : List ℕ) → JudgementParts (judgement (answer limits s))
   read-parts s = record { number-is = omega (arith, tellable .sheet, line-within limits s); line-is = omega (arith, tellable .sheet, line-within limits s) }
+
+-- the next limit is told as 0 exactly where none pays
+pub next-none : (limits : Limits) (k : List ℕ) (k-sign : ℕ) (l : List ℕ) (l-sign limit : ℕ)
+    → (toldNext (nextAnswer limits k k-sign l l-sign limit) ≡ 0) ↔ (nextAnswer limits k k-sign l l-sign limit ≡ nexts.None)
+next-none limits k k-sign l l-sign limit = (zero (nextAnswer limits k k-sign l l-sign limit) (next-larger limits k k-sign l l-sign limit), λ e. ap toldNext e)
+  where
+    zero : (n : NextLimit) → Larger n → toldNext n ≡ 0 → n ≡ nexts.None
+    zero nexts.BadScalar h e = absurd (omega arith)
+    zero nexts.BadLimit h e = absurd (omega arith)
+    zero (nexts.Pays n a) h e = absurd (omega arith)
+    zero nexts.None h e = refl
 
 -- columns packed or unpacked
 pub packing-parts : (p : Packing) → PackingParts p

@@ -4,11 +4,12 @@ use mathlib.Core.List.{List, [], _∷_, List·Memᴰ}
 use Prim.Native.Nat.{ℕ}
 use lib.Dec.{T}
 use Rattle.forms.specs.Test.{Test, equal, everyOf}
+use Rattle.chooser.specs.declared.next.NextLimit.the-variants as next
 use Rattle.packing.specs.declared.answer.Packing.the-variants as packing
 use Rattle.recode.specs.declared.answer.Recoded.the-variants as recoded
 use Rattle.writer.specs.declared.answer.Sheet.the-variants as sheet
 use Rattle.reader.specs.declared.judge.Judgement.the-variants.{Accepted, Refused}
-use Rattle.host.specs.Told.{toldRecoded, toldSheet, toldJudgement, toldPacking, sheetsNumber, sheetsLength, sheetsWeight, sheetsAdditions, sheetsLine}
+use Rattle.host.specs.Told.{toldRecoded, toldSheet, toldNext, toldJudgement, toldPacking, sheetsNumber, sheetsLength, sheetsLimit, sheetsWeight, sheetsAdditions, sheetsLine}
 
 -- a number, and what it is
 pub data Sample : Type 0 where
@@ -31,6 +32,11 @@ samples =
     ∷ is (toldSheet sheet.BadWindow) 8589934592
     ∷ is (toldSheet sheet.NoRoom) 12884901888
     ∷ is (toldSheet sheet.BadLimit) 17179869184
+    -- a limit of 3 that pays with 5 additions, 0x50003; none; questions 1 and 4
+    ∷ is (toldNext (next.Pays 3 5)) 327683
+    ∷ is (toldNext next.None) 0
+    ∷ is (toldNext next.BadScalar) 4294967296
+    ∷ is (toldNext next.BadLimit) 17179869184
     -- a sheet that is accepted, and one that misses question 9 at line 531
     ∷ is (toldJudgement Accepted) 0
     ∷ is (toldJudgement (Refused 9 531)) 38654706195
@@ -41,6 +47,7 @@ samples =
     -- the parts of 0x89abcdef76543210
     ∷ is (sheetsNumber 9920249032579756560) 2309737967
     ∷ is (sheetsLength 9920249032579756560) 12816
+    ∷ is (sheetsLimit 9920249032579756560) 12816
     ∷ is (sheetsWeight 9920249032579756560) 30292
     ∷ is (sheetsAdditions 9920249032579756560) 30292
     ∷ is (sheetsLine 9920249032579756560) 1985229328

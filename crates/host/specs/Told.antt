@@ -2,6 +2,8 @@
 pub mod Parts
 pub mod Lines
 use Prim.Native.Nat.{ℕ, _+_, _*_, _/_, _%_, _^_, _<_}
+use Rattle.chooser.specs.Next as Choosing
+use Rattle.chooser.specs.declared.next.NextLimit.{NextLimit}
 use Rattle.packing.specs.Call as Packs
 use Rattle.packing.specs.declared.answer.Packing.{Packing}
 use Rattle.recode.specs.Call as Recoding
@@ -15,7 +17,7 @@ use Rattle.reader.specs.declared.judge.Judgement.the-variants.{Accepted, Refuse
 abbrev pub numbered : ℕ → ℕ → ℕ
 numbered number rest = number * 2 ^ 32 + rest
 
--- a length in bits 0 to 15, and what is counted in bits 16 to 31
+-- a length or a limit in bits 0 to 15, and what is counted in bits 16 to 31
 abbrev pub joined : ℕ → ℕ → ℕ
 joined length count = count * 2 ^ 16 + length
 
@@ -37,6 +39,13 @@ toldSheet s = numbered (Writing.number s) (joined (Writing.bytesWritten s) (Writ
 
 abbrev pub SheetFits : Sheet → Type 0
 SheetFits s = Fits (Writing.bytesWritten s) (Writing.additions s)
+
+-- the next limit: the number; the limit that pays, and the additions there, both 0 for none
+abbrev pub toldNext : NextLimit → ℕ
+toldNext n = numbered (Choosing.nextNumber n) (joined (Choosing.limitTold n) (Choosing.additionsTold n))
+
+abbrev pub NextFits : NextLimit → Type 0
+NextFits n = Fits (Choosing.limitTold n) (Choosing.additionsTold n)
 
 -- the number of the reader's question that is missed, 0 where none is
 abbrev pub number : Judgement → ℕ
@@ -62,9 +71,12 @@ toldPacking p = numbered (Packs.number p) 0
 abbrev pub sheetsNumber : ℕ → ℕ
 sheetsNumber told = told / 2 ^ 32
 
--- sheets_length: bits 0 to 15
+-- sheets_length and sheets_limit: bits 0 to 15
 abbrev pub sheetsLength : ℕ → ℕ
 sheetsLength told = told % 2 ^ 16
+
+abbrev pub sheetsLimit : ℕ → ℕ
+sheetsLimit told = told % 2 ^ 16
 
 -- sheets_weight and sheets_additions: bits 16 to 31
 abbrev pub sheetsWeight : ℕ → ℕ

@@ -7,10 +7,11 @@ ghost use Rattle.down.specs.Call.{downAnswer, downBuffer};
 ghost use Rattle.codes.specs.Call.{codesAnswer, codesDigits, codesBuffer};
 ghost use Rattle.writer.specs.Call.{jAnswer, jBuffer, iAnswer, iBuffer, iDownAnswer, iDownBuffer};
 ghost use Rattle.chooser.specs.Call.{cheapestAnswer, cheapestBuffer};
+ghost use Rattle.chooser.specs.Next.{nextAnswer};
 ghost use Rattle.packing.specs.Call.{packAnswer, packBuffer, unpackAnswer, unpackBuffer};
 ghost use Rattle.sheet.specs.Answer.{answer};
 ghost use Rattle.reader.specs.Judgement.{judgement};
-ghost use Rattle.host.specs.Told.{toldRecoded, toldSheet, toldJudgement, toldPacking};
+ghost use Rattle.host.specs.Told.{toldRecoded, toldSheet, toldNext, toldJudgement, toldPacking};
 
 // The row of a scalar for the window m.
 #[no_mangle]
@@ -140,6 +141,14 @@ pub extern "C" fn sheets_cheapest(
     ensures buffer { λ _. ⌜ now (sheet .exit) ≡ cheapestBuffer card (now (k .entry)) «k_sign» (now (l .entry)) «l_sign» limit (now (sheet .entry)) ⌝ }
 {
     crate::told::written(chooser::cheapest(k, k_sign, l, l_sign, limit, sheet))
+}
+
+// The smallest larger limit, up to 31, at which the cheapest sheet has fewer additions.
+#[no_mangle]
+pub extern "C" fn sheets_next_limit(k: &[u8], k_sign: u32, l: &[u8], l_sign: u32, limit: u32) -> u64
+    ensures answer { λ r. ⌜ r ≡ toldNext (nextAnswer card (now (k .entry)) «k_sign» (now (l .entry)) «l_sign» limit) ⌝ }
+{
+    crate::told::next(chooser::next_limit(k, k_sign, l, l_sign, limit))
 }
 
 // Reads a sheet: accepted, or the first question that it misses.

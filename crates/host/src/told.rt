@@ -1,6 +1,7 @@
 ghost use mathlib.Core.Path.{_≡_};
 ghost use Prim.Native.Nat.{_^_, _<_};
-ghost use Rattle.host.specs.Told.{numbered, joined, Fits, toldRecoded, RecodedFits, toldSheet, SheetFits, line, toldJudgement, toldPacking};
+ghost use Rattle.host.specs.Told.{numbered, joined, Fits, toldRecoded, RecodedFits, toldSheet, SheetFits, toldNext, NextFits, line, toldJudgement, toldPacking};
+use chooser::NextLimit;
 use packing::Packing;
 use reader::Judgement;
 use recode::Recoded;
@@ -25,6 +26,17 @@ pub fn written(answer: Sheet) -> u64
     )
 }
 
+// What is told of the next limit that pays.
+pub fn next(answer: NextLimit) -> u64
+    requires { ⌜ NextFits answer ⌝ }
+    ensures { λ r. ⌜ r ≡ toldNext answer ⌝ }
+{
+    numbered(
+        answer.number(),
+        join(answer.limit() as usize, answer.additions() as usize),
+    )
+}
+
 // What is told of a sheet that was read.
 pub fn judged(answer: Judgement) -> u64
     requires { ⌜ line answer < 2 ^ 32 ⌝ }
@@ -43,7 +55,7 @@ pub fn packing(answer: Packing) -> u64
     numbered(answer.number(), 0)
 }
 
-// A length in bits 0 to 15, and what is counted in bits 16 to 31.
+// A length or a limit in bits 0 to 15, and what is counted in bits 16 to 31.
 fn join(length: usize, count: usize) -> usize
     requires { ⌜ Fits length count ⌝ }
     ensures { λ r. ⌜ (r ≡ joined length count) × (r < 2 ^ 32) ⌝ }

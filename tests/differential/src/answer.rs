@@ -1,5 +1,6 @@
 //! The answers to the calls: the number that each returns, and what it leaves in the buffers.
 
+use crate::next_limit::NextLimit;
 use crate::reader::Refusal;
 use crate::sheet::{columns, Sheet};
 use crate::{joint, row};
@@ -23,6 +24,8 @@ pub enum Answer {
     Packed(Vec<u8>),
     /// The digits of columns for k and for l.
     Unpacked(Vec<i8>, Vec<i8>),
+    /// The next limit that pays, if any does.
+    NextLimit(Option<NextLimit>),
 }
 
 impl Answer {
@@ -35,7 +38,7 @@ impl Answer {
     }
 
     /// The number that the C call returns: in bits 32 to 63 the question missed; below them the
-    /// reader's line, or what was written.
+    /// reader's line, or what was written, or the limit that pays and its additions.
     pub fn code(&self) -> u64 {
         match self {
             Answer::Refused(Refusal { number, line }) => u64::from(*number) << 32 | *line as u64,
@@ -44,7 +47,11 @@ impl Answer {
                 written(k_row.len(), joint::weight(&columns(k_row, l_row)))
             }
             Answer::Sheet { bytes, additions } => written(bytes.len(), *additions),
-            Answer::Accepted | Answer::Packed(_) | Answer::Unpacked(_, _) => 0,
+            Answer::NextLimit(Some(NextLimit { limit, additions })) => written(*limit, *additions),
+            Answer::Accepted
+            | Answer::Packed(_)
+            | Answer::Unpacked(_, _)
+            | Answer::NextLimit(None) => 0,
         }
     }
 
@@ -72,13 +79,13 @@ impl Answer {
                 leave_digits(k_row, &mut k_buffer[..k_row.len()]);
                 leave_digits(l_row, &mut l_buffer[..l_row.len()]);
             }
-            (Answer::Refused(_) | Answer::Accepted, _) => {}
+            (Answer::Refused(_) | Answer::Accepted | Answer::NextLimit(_), _) => {}
             _ => unreachable!("every answer has its own number of buffers"),
         }
     }
 }
 
-/// In bits 0 to 15 the length; in bits 16 to 31 the weight, or the additions.
+/// In bits 0 to 15 the length, or the limit; in bits 16 to 31 the weight, or the additions.
 fn written(length: usize, count: usize) -> u64 {
     let part = |number| u64::from(u16::try_from(number).expect("a number of 16 bits"));
     part(count) << 16 | part(length)
@@ -169,6 +176,18 @@ mod tests {
         assert_eq!(Answer::refused(9, 531).code(), 9 << 32 | 531);
         assert_eq!(Answer::refused(11, 0x1_2345).code(), 0x0000_000b_0001_2345);
         assert_eq!(Answer::Accepted.code(), 0);
+    }
+
+    #[test]
+    fn codes_of_next_limits() {
+        assert_eq!(code("next-limit 2d 0 00 0 0"), 2 << 16 | 2);
+        assert_eq!(code("next-limit 2d 256 00 1 1"), 2 << 16 | 2);
+        assert_eq!(code("next-limit 2d 0 00 0 2"), 0);
+        assert_eq!(code("next-limit 2d 0 00 0 31"), 0);
+        assert_eq!(code("next-limit 2d 0 00 0 32"), 4 << 32);
+        assert_eq!(code("next-limit - 0 00 0 32"), 1 << 32);
+        let next = NextLimit { limit: 31, additions: 528 };
+        assert_eq!(Answer::NextLimit(Some(next)).code(), 0x0210_001f);
     }
 
     /// A row and a joint form with as many digits and columns that are not zero as the rules allow,

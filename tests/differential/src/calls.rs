@@ -9,7 +9,7 @@ use crate::limits::Limits;
 use crate::plan::{Plan, MOST_SLOTS};
 use crate::scalars::Scalar;
 use crate::sheet::Sheet;
-use crate::{codes, joint, packing, reader};
+use crate::{codes, joint, next_limit, packing, reader};
 use std::fmt;
 
 /// A call with all that is lent to it, but for what its buffers hold before.
@@ -69,6 +69,12 @@ pub enum Call {
         k_places: usize,
         l_places: usize,
     },
+    /// The card's alone.
+    NextLimit {
+        k: Scalar,
+        l: Scalar,
+        limit: u32,
+    },
 }
 
 impl Call {
@@ -121,12 +127,18 @@ impl Call {
                 }
                 None => Answer::refused(12, 0),
             },
+            Call::NextLimit { k, l, limit } => {
+                let additions = next_limit::additions(k.value(), l.value());
+                Answer::NextLimit(next_limit::next(&additions, *limit as usize))
+            }
         }
     }
 
     /// The number of the first question missed by a call other than the reader; question 12, of the
     /// digits and bytes of columns, comes after these.
     fn first_question_missed(&self, limits: Limits) -> Option<u32> {
+        // The gateway has no call for the next limit.
+        let limits = if matches!(self, Call::NextLimit { .. }) { Limits::Card } else { limits };
         let has_length = |scalar: &Scalar| (1..=limits.bytes()).contains(&scalar.bytes.len());
         let questions = match self {
             Call::Row { scalar, m, places, .. } => {
@@ -172,6 +184,9 @@ impl Call {
                 let lengths = [packed.len(), *k_places, *l_places];
                 vec![(lengths.iter().all(|length| length >= columns), 3)]
             }
+            Call::NextLimit { k, l, limit } => {
+                vec![(has_length(k) && has_length(l), 1), (*limit <= MOST_SLOTS, 4)]
+            }
         };
         questions.into_iter().find(|(met, _)| !met).map(|(_, number)| number)
     }
@@ -184,7 +199,8 @@ impl Call {
             | Call::JointCodes { k, l, .. }
             | Call::PlanJ { k, l, .. }
             | Call::PlanI { k, l, .. }
-            | Call::Cheapest { k, l, .. } => vec![&k.bytes, &l.bytes],
+            | Call::Cheapest { k, l, .. }
+            | Call::NextLimit { k, l, .. } => vec![&k.bytes, &l.bytes],
             Call::Read { sheet } => vec![sheet],
             Call::Pack { k_digits, l_digits, .. } => vec![k_digits, l_digits],
             Call::Unpack { packed, .. } => vec![packed],
@@ -213,7 +229,7 @@ impl Call {
             | Call::PlanI { room, .. }
             | Call::Cheapest { room, .. }
             | Call::Pack { room, .. } => vec![*room],
-            Call::Read { .. } => Vec::new(),
+            Call::Read { .. } | Call::NextLimit { .. } => Vec::new(),
         }
     }
 }
@@ -251,6 +267,9 @@ impl fmt::Display for Call {
             }
             Call::Unpack { columns, packed, k_places, l_places } => {
                 write!(out, "unpack {columns} {} {k_places} {l_places}", hex(packed))
+            }
+            Call::NextLimit { k, l, limit } => {
+                write!(out, "next-limit {} {} {limit}", words(k), words(l))
             }
         }
     }
@@ -310,6 +329,11 @@ pub fn parse(words: &[&str]) -> Option<Call> {
             packed: unhex(packed)?,
             k_places: k_places.parse().ok()?,
             l_places: l_places.parse().ok()?,
+        },
+        ["next-limit", k, ks, l, ls, limit] => Call::NextLimit {
+            k: parse_scalar(k, ks)?,
+            l: parse_scalar(l, ls)?,
+            limit: limit.parse().ok()?,
         },
         _ => return None,
     })
@@ -372,10 +396,11 @@ mod tests {
             Call::Joint { k: k.clone(), l: l.clone(), k_places: 17, l_places: 0 },
             Call::JointCodes { k: k.clone(), l: l.clone(), rooms: [17, 0, 18, 529] },
             Call::PlanJ { k: k.with_sign(2), l: l.with_sign(0), room: 16_384 },
-            Call::Cheapest { k, l, limit: 32, room: 0 },
+            Call::Cheapest { k: k.clone(), l: l.clone(), limit: 32, room: 0 },
             Call::Read { sheet: b"E\n".to_vec() },
             Call::Pack { columns: 2, k_digits: vec![0, 255, 2], l_digits: vec![], room: 3 },
             Call::Unpack { columns: usize::MAX, packed: vec![8], k_places: 0, l_places: 5 },
+            Call::NextLimit { k: k.with_sign(1), l, limit: u32::MAX },
         ];
         for call in of_rows.into_iter().flatten().chain(others) {
             let printed = call.to_string();

@@ -58,6 +58,11 @@ extern "C" {
     fn sheets_unpack(_: usize, _: Read, _: usize, _: Write, _: usize, _: Write, _: usize) -> u64;
 }
 
+// The call that the gateway has not.
+extern "C" {
+    fn sheets_next_limit(_: Read, _: usize, _: u32, _: Read, _: usize, _: u32, _: u32) -> u64;
+}
+
 /// Makes the call of the set with these limits, with these inputs and buffers. The inputs come from
 /// pointers that may be written through, so that a call that writes to one is found out.
 pub fn make(limits: Limits, call: &Call, inputs: &mut [Lent], buffers: &mut [Lent]) -> u64 {
@@ -128,6 +133,10 @@ pub fn make(limits: Limits, call: &Call, inputs: &mut [Lent], buffers: &mut [Len
             let (packed, room) = packed.raw();
             let ((k, k_places), (l, l_places)) = (k_digits.raw(), l_digits.raw());
             unsafe { sheets_unpack(*columns, packed, room, k, k_places, l, l_places) }
+        }
+        (Call::NextLimit { k, l, limit }, [k_bytes, l_bytes], []) => {
+            let ((k, kn, ks), (l, ln, ls)) = (signed(k_bytes, k), signed(l_bytes, l));
+            unsafe { sheets_next_limit(k, kn, ks, l, ln, ls, *limit) }
         }
         _ => unreachable!("every call has its own inputs and buffers"),
     }

@@ -1,6 +1,7 @@
 //! A second implementation of the double-and-add sheets, written from the scope document alone,
-//! for rows from the top down from source document 000, and for packed columns from their
-//! definition. The differential test compares the library with it.
+//! for rows from the top down from source document 000, for packed columns from their definition,
+//! and for the next limit that pays by the cheapest sheet at every limit. The differential test
+//! compares the library with it.
 
 pub mod answer;
 pub mod big;
@@ -19,6 +20,7 @@ pub mod joint;
 pub mod least;
 pub mod licences;
 pub mod limits;
+pub mod next_limit;
 pub mod packing;
 pub mod plan;
 pub mod random;

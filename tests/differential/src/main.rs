@@ -72,6 +72,11 @@ fn compare_everything(judge: &mut Judge, seed: u64) {
         println!("  a carry that stops spoils {spoiled} of {licences} real licences");
     });
     section(judge, "packed columns", |judge| runs::joint_forms::run_columns(judge, random));
+    section(judge, "next limits", |judge| {
+        let runs::next_limit::Met { none, next, further, highest } =
+            runs::next_limit::run(judge, random);
+        println!("  limit that pays: none {none}, next {next}, further {further}; 31: {highest}");
+    });
 }
 
 fn section(judge: &mut Judge, name: &str, run: impl FnOnce(&mut Judge)) {

@@ -3,6 +3,7 @@
 use crate::lent::Lent;
 use reference::answer::Answer;
 use reference::calls::Call;
+use reference::next_limit::NextLimit;
 
 /// The number that a call returned and what its buffers hold after it.
 #[derive(PartialEq, Eq)]
@@ -63,6 +64,12 @@ impl Outcome {
         usize::from((self.code >> 16) as u16)
     }
 
+    /// The next limit that pays, if the call for it returned one.
+    pub fn next_limit(&self) -> Option<NextLimit> {
+        let (limit, additions) = (usize::from(self.code as u16), self.additions());
+        (self.number() == 0 && limit != 0).then_some(NextLimit { limit, additions })
+    }
+
     /// The line that the reader returned.
     pub fn line(&self) -> u32 {
         self.code as u32
@@ -87,6 +94,13 @@ impl Outcome {
             Call::Read { .. } => format!("number {number}, line {}", self.line()),
             Call::Pack { .. } | Call::Unpack { .. } => {
                 format!("number {number}, low half {}", self.code as u32)
+            }
+            Call::NextLimit { .. } => {
+                format!(
+                    "number {number}, limit {}, additions {}",
+                    self.code as u16,
+                    self.additions()
+                )
             }
         }
     }

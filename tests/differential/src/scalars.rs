@@ -7,6 +7,11 @@ use crate::random::Random;
 /// Plus, and four of the numbers that are minus.
 pub const SIGNS: [u32; 5] = [0, 1, 2, 256, u32::MAX];
 
+/// Every two of these signs, one for each scalar.
+pub fn every_two_signs() -> impl Iterator<Item = (u32, u32)> + Clone {
+    SIGNS.into_iter().flat_map(|ks| SIGNS.map(|ls| (ks, ls)))
+}
+
 /// A scalar as a call takes it.
 #[derive(Clone, PartialEq, Eq, Debug)]
 pub struct Scalar {

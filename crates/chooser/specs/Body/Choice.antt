@@ -22,9 +22,12 @@ abbrev pub planPlaces : Plan → List ℕ → List ℕ → Size → ℕ
 planPlaces J ks ls j = j .places
 planPlaces (I m1 m2) ks ls j = max (placesAt ks m1) (placesAt ls m2)
 
--- the key of a plan by these sizes
+-- the additions of a plan by these sizes, and its key
+abbrev pub planAdditions : Plan → List ℕ → List ℕ → Size → ℕ
+planAdditions p ks ls j = tableAdditions p + (planWeight p ks ls j - 1)
+
 unfoldable pub costKey : List ℕ → List ℕ → Size → Plan → List ℕ
-costKey ks ls j p = keyWith (tableAdditions p + (planWeight p ks ls j - 1)) (tableDoublings p + (planPlaces p ks ls j - 1)) p
+costKey ks ls j p = keyWith (planAdditions p ks ls j) (tableDoublings p + (planPlaces p ks ls j - 1)) p
 
 -- the first n plans are enough to try for a limit: all others need more slots
 pub record Enough (limit n : ℕ) : Type 0 where

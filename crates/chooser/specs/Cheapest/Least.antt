@@ -50,9 +50,12 @@ pub valid-in : {p : Plan} → Valid p → In p plans
 valid-in forJ = joint-in-plans
 valid-in (forI v w) = in-plans v w
 
--- those of a limit are plans of 01
+-- and the plans in it, and those of a limit, are plans of 01
+pub plan-valid : {p : Plan} → In p plans → Valid p
+plan-valid {p} o = valid-of p (plans-valid o)
+
 pub within-valid : (limit : ℕ) {p : Plan} → In p (within limit plans) → Valid p
-within-valid limit {p} o = valid-of p (plans-valid (within-in limit plans o .0))
+within-valid limit o = plan-valid (within-in limit plans o .0)
 
 module _ (k l : ℤ) (limit : ℕ) where
   -- it is a plan of 01 within the limit

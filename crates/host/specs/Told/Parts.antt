@@ -1,7 +1,7 @@
 -- What a call answers fits the parts that it is told in, whatever was asked: under the card's limits, and under the gateway's, lengths, weights and
 -- additions are below 65,536.
 use mathlib.Core.Path.{_≡_}
-use mathlib.Core.Bool.{Bool, true, _&&_, cond}
+use mathlib.Core.Bool.{Bool, true, false, _&&_, cond}
 use mathlib.Core.List.{List}
 use Prim.Native.Nat.{ℕ, _+_, _^_, _<_}
 use native.Mathlib.Omega.{arith}
@@ -26,7 +26,7 @@ use Rattle.sheet.specs.declared.Plan.{Plan}
 use Rattle.sheet.specs.declared.Plan.the-variants.{J, I}
 use Rattle.written.specs.Enough.{Enough, card-enough, gateway-enough}
 use Rattle.written.specs.Makes.{Makes}
-use Rattle.written.specs.Promise.{sheet-fits, sheet-few}
+use Rattle.written.specs.Promise.{sheet-fits, sheet-few, written-few}
 use Rattle.written.specs.Valid.{Valid, forJ}
 use Rattle.written.specs.Written.{digits}
 use Rattle.written.specs.Written.Columns.{digits-make}
@@ -41,7 +41,11 @@ use Rattle.writer.specs.declared.answer.Sheet.the-variants.{BadScalar, BadWindo
 use Rattle.chooser.specs.Call.{cheapestAnswer}
 use Rattle.chooser.specs.Cheapest.{cheapestPlan}
 use Rattle.chooser.specs.Cheapest.Least.{plan-within}
-use Rattle.host.specs.Told.{RecodedFits, SheetFits}
+use Rattle.chooser.specs.Next.{fewest, Next, pays, none, nextLimit, nextAnswer}
+use Rattle.chooser.specs.Next.First.{next-meets}
+use Rattle.chooser.specs.declared.next.NextLimit.{NextLimit}
+use Rattle.chooser.specs.declared.next.NextLimit.the-variants as nexts
+use Rattle.host.specs.Told.{RecodedFits, SheetFits, NextFits}
 
 -- limits under which all that is told fits
 pub record Tellable (limits : Limits) : Type 0 where
@@ -130,3 +134,35 @@ module _ (limits : Limits) (tellable : Tellable limits) where
         either-way SheetFits (sized limits k && sized limits l) (cond (isLimit limit) answer BadLimit) BadScalar
         (λ e. either-way SheetFits (isLimit limit) answer BadLimit
         (λ _. asked-fits (digits plan x y) room (plan-within x y limit .0) (digits-make x y (plan-within x y limit .0)) e) (omega arith)) (omega arith)
+
+    -- the next limit
+    paying-fits : {limit : ℕ} {n : NextLimit} → (sized limits k && sized limits l) ≡ true → Next (fewest x y) limit n → NextFits n
+    paying-fits e (pays {n} u v f w q) =
+        let (a, b) = both (sized limits k) (sized limits l) e in
+        let few = written-few limits (tellable .enough) (cheapestPlan x y n) x y (plan-within x y n .0) (signed-bounded limits k k-sign k-bytes a) (signed-bounded limits l l-sign l-bytes b) in
+        record { length-fits = omega arith; count-fits = omega (arith, tellable .enough .counts, few, f) }
+    paying-fits e (none q) = omega arith
+
+    pub next-fits : (limit : ℕ) → NextFits (nextAnswer limits k k-sign l l-sign limit)
+    unfolding nextAnswer
+    next-fits limit =
+        let answer : NextLimit = nextLimit x y limit in
+        either-way NextFits (sized limits k && sized limits l) (cond (isLimit limit) answer nexts.BadLimit) nexts.BadScalar
+        (λ e. either-way NextFits (isLimit limit) answer nexts.BadLimit (λ _. paying-fits e (next-meets x y limit)) (omega arith)) (omega arith)
+
+-- a limit that pays is larger than another, so it is not 0
+abbrev pub Larger : NextLimit → Type 0
+Larger nexts.BadScalar = Unit {0}
+Larger nexts.BadLimit = Unit {0}
+Larger (nexts.Pays n a) = 0 < n
+Larger nexts.None = Unit {0}
+
+pub next-larger : (limits : Limits) (k : List ℕ) (k-sign : ℕ) (l : List ℕ) (l-sign limit : ℕ) → Larger (nextAnswer limits k k-sign l l-sign limit)
+unfolding nextAnswer
+next-larger limits k k-sign l l-sign limit = go (sized limits k && sized limits l) (isLimit limit) (next-meets (signedScalar k k-sign) (signedScalar l l-sign) limit)
+  where
+    go : {n : NextLimit} (a b : Bool) → Next (fewest (signedScalar k k-sign) (signedScalar l l-sign)) limit n → Larger (cond a (cond b n nexts.BadLimit) nexts.BadScalar)
+    go true true (pays u v f w q) = omega arith
+    go true true (none q) = tt
+    go true false h = tt
+    go false b h = tt

@@ -1,6 +1,6 @@
 //! Cheapest sheets.
 
-use super::{comes_to_its_pair, refused_scalars, ROOMS};
+use super::{comes_to_its_pair, refused_scalars, REFUSED_LIMITS, ROOMS};
 use crate::judge::Judge;
 use reference::answer::Answer;
 use reference::calls::Call;
@@ -10,7 +10,6 @@ use reference::random::Random;
 use reference::scalars::{self, Scalar};
 
 const RANDOM_PAIRS: usize = 800;
-const REFUSED_LIMITS: [u32; 9] = [32, 33, 255, 256, 287, 65_536, 1 << 31, (1 << 31) + 5, u32::MAX];
 
 pub fn run(judge: &mut Judge, random: &mut Random) {
     let limits = judge.limits();
@@ -32,10 +31,11 @@ pub fn run(judge: &mut Judge, random: &mut Random) {
     refusals(judge, random);
 }
 
-/// The cheapest sheets, and what each comes to that is another than the one before.
-fn every_limit(judge: &mut Judge, k: &Scalar, l: &Scalar) {
+/// The cheapest sheets, and what each comes to that is another than the one before; the additions
+/// that were answered at every limit.
+pub fn every_limit(judge: &mut Judge, k: &Scalar, l: &Scalar) -> Vec<usize> {
     let forms = Forms::of(k.value(), l.value());
-    let mut before = Vec::new();
+    let (mut before, mut additions) = (Vec::new(), Vec::new());
     for limit in 0..=MOST_SLOTS {
         let sheet = forms.cheapest_sheet(limit as usize);
         let call =
@@ -46,7 +46,9 @@ fn every_limit(judge: &mut Judge, k: &Scalar, l: &Scalar) {
             comes_to_its_pair(judge, &call, &outcome);
         }
         before = written.to_vec();
+        additions.push(outcome.additions());
     }
+    additions
 }
 
 /// Every order of the questions.

@@ -5,6 +5,7 @@ pub mod changed_orders;
 pub mod cheapest;
 pub mod joint_forms;
 pub mod licences;
+pub mod next_limit;
 pub mod plans;
 pub mod reads;
 pub mod rows;
@@ -72,6 +73,9 @@ const REFUSED_WINDOWS: [u32; 17] = [
     u32::MAX - 1,
     u32::MAX,
 ];
+
+/// Limits of slots that are refused.
+const REFUSED_LIMITS: [u32; 9] = [32, 33, 255, 256, 287, 65_536, 1 << 31, (1 << 31) + 5, u32::MAX];
 
 /// Sizes of sheet buffers: too small, exact, and larger, at the card and at the gateway.
 const ROOMS: [usize; 11] =

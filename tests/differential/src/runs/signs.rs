@@ -9,7 +9,7 @@ use reference::direction::Direction;
 use reference::limits::Limits;
 use reference::random::Random;
 use reference::row;
-use reference::scalars::{self, Scalar, SIGNS};
+use reference::scalars::{self, every_two_signs, Scalar, SIGNS};
 
 const RANDOM_PAIRS: usize = 200;
 
@@ -239,10 +239,6 @@ fn read_as(judge: &mut Judge, sheet: &str, own: &str, other: &str, answer: &Answ
 
 fn scalar(number: i8) -> Scalar {
     Scalar::new([number.unsigned_abs()], u32::from(number < 0))
-}
-
-fn every_two_signs() -> impl Iterator<Item = (u32, u32)> {
-    SIGNS.into_iter().flat_map(|ks| SIGNS.map(|ls| (ks, ls)))
 }
 
 /// The bytes of digits, negated where the sign is not 0.

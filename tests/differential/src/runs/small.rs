@@ -99,7 +99,7 @@ fn pairs() -> impl Iterator<Item = (u8, u8)> {
 }
 
 /// The four pairs of signs; which number stands for minus changes with the scalars.
-fn pairs_of_signs(k: u8, l: u8) -> [(u32, u32); 4] {
+pub fn pairs_of_signs(k: u8, l: u8) -> [(u32, u32); 4] {
     let minus = |at: u8| SIGNS[1 + usize::from(at) % (SIGNS.len() - 1)];
     let (ks, ls) = (minus(k / 2 + l), minus(l / 2));
     [(0, 0), (0, ls), (ks, 0), (ks, ls)]

@@ -8,20 +8,8 @@ use borrow.Author.Needs.{needs}
 use Rattle.chooser.proofs.choice.cost_of.Statement.{statement}
 use Rattle.chooser.proofs.choice.cost_of.Tie as tie
 
-table-additions-requires : tie.Need-table-additions-requires
-table-additions-requires c κs = search needs
-
-cast-additions : tie.Need-cast-additions
-cast-additions c = search needs
-
-plan-weight-requires : tie.Need-plan-weight-requires
-plan-weight-requires c κs = search needs
-
-less-one-requires : tie.Need-less-one-requires
-less-one-requires c κs = search needs
-
-add-additions : tie.Need-add-additions
-add-additions c = search needs
+additions-of-requires : tie.Need-additions-of-requires
+additions-of-requires c κs = search needs
 
 table-doublings-requires : tie.Need-table-doublings-requires
 table-doublings-requires c κs = search needs
@@ -35,8 +23,8 @@ plan-places-requires c κs = search needs
 cast-less-one : tie.Need-cast-less-one
 cast-less-one c = search needs
 
-less-one-requires-2 : tie.Need-less-one-requires-2
-less-one-requires-2 c κs = search needs
+less-one-requires : tie.Need-less-one-requires
+less-one-requires c κs = search needs
 
 add-doublings : tie.Need-add-doublings
 add-doublings c = search needs
@@ -47,26 +35,21 @@ of-requires c κs = search needs
 returns : tie.Need-returns
 unfolding costKey
 returns c =
-    let a = c .before .before .before .before .before .before .before .before .before .args in
+    let a = c .before .before .before .before .before .before .before .args in
     ap keyOf (c .of .ensures)
-    ∙ ap₂ (λ (x y : ℕ). keyWith x y (a .plan))
-    (ap₂ (λ (x y : ℕ). x + y) (c .before .before .before .before .before .before .table-additions .ensures) (c .before .before .before .before .less-one .ensures ∙ ap (λ (n : ℕ). n - 1) (c .before .before .before .before .before .plan-weight .ensures .0)))
-    (ap₂ (λ (x y : ℕ). x + y) (c .before .before .before .table-doublings .ensures) (c .before .less-one2 .ensures ∙ ap (λ (n : ℕ). n - 1) (c .before .before .plan-places .ensures)))
+    ∙ ap₂ (λ (x y : ℕ). keyWith x y (a .plan)) (c .before .before .before .before .additions-of .ensures)
+    (ap₂ (λ (x y : ℕ). x + y) (c .before .before .before .table-doublings .ensures) (c .before .less-one .ensures ∙ ap (λ (n : ℕ). n - 1) (c .before .before .plan-places .ensures)))
 
 pub cost-of-spec : {M : Type 1} → statement M
 cost-of-spec =
     tie.close
     (tie.spec
-    table-additions-requires
-    cast-additions
-    plan-weight-requires
-    less-one-requires
-    add-additions
+    additions-of-requires
     table-doublings-requires
     cast-doublings
     plan-places-requires
     cast-less-one
-    less-one-requires-2
+    less-one-requires
     add-doublings
     of-requires
     returns)
