@@ -28,21 +28,35 @@ use Rattle.chooser.proofs.Lowest.{lowest-one, lowest-all}
 use Rattle.chooser.proofs.Numbers.{plans-length}
 use Rattle.chooser.proofs.Turns.{additions-agree}
 
--- what stands at s, before and after: it is kept, or at the place it becomes a
+-- what stands at s in lowered numbers: it is kept, or at the place it becomes a
 data Lowering (at a s old new : ℕ) : Type 0 where
-  kept : new ≡ old → (s ≡ at → old ≤ a) → Lowering at a s old new
+  kept : new ≡ old → Lowering at a s old new
   took : s ≡ at → new ≡ a → a ≤ old → Lowering at a s old new
 
-lowering : (t : List ℕ) (at a s : ℕ) → s < length t → Lowering at a s (getD t s 0) (getD (lowered t at a) s 0)
-lowering t at a s h = go (eqb s at) (leb (getD t s 0) a) refl refl
-  where
-    same : s ≡ at → getD (lowered t at a) s 0 ≡ min (getD t s 0) a
-    same e = rw (← e) (getD-set-same t s (min (getD t s 0) a) 0 h)
+module _ (t : List ℕ) (at a : ℕ) where
+  lowered-length : length (lowered t at a) ≡ length t
+  lowered-length = length-set t at (min (getD t at 0) a)
 
-    go : (b c : Bool) → eqb s at ≡ b → leb (getD t s 0) a ≡ c → Lowering at a s (getD t s 0) (getD (lowered t at a) s 0)
-    go true true e g = kept (omega (arith, same (eqb-true s at e), leb-true (getD t s 0) a g)) (λ _. leb-true (getD t s 0) a g)
-    go true false e g = took (eqb-true s at e) (omega (arith, same (eqb-true s at e), leb-false (getD t s 0) a g)) (omega (arith, leb-false (getD t s 0) a g))
-    go false c e g = kept (getD-set-other t at s (min (getD t at 0) a) 0 (eqb-false s at e)) (λ u. absurd (eqb-false s at e u))
+  lowered-to : at < length t → getD (lowered t at a) at 0 ≡ min (getD t at 0) a
+  lowered-to h = getD-set-same t at (min (getD t at 0) a) 0 h
+
+  lowering : (s : ℕ) → s < length t → Lowering at a s (getD t s 0) (getD (lowered t at a) s 0)
+  lowering s h = go (eqb s at) (leb (getD t s 0) a) refl refl
+    where
+      same : s ≡ at → getD (lowered t at a) s 0 ≡ min (getD t s 0) a
+      same e = rw e (lowered-to (omega arith))
+
+      go : (b c : Bool) → eqb s at ≡ b → leb (getD t s 0) a ≡ c → Lowering at a s (getD t s 0) (getD (lowered t at a) s 0)
+      go true true e g = kept (omega (arith, same (eqb-true s at e), leb-true (getD t s 0) a g))
+      go true false e g = took (eqb-true s at e) (omega (arith, same (eqb-true s at e), leb-false (getD t s 0) a g)) (omega (arith, leb-false (getD t s 0) a g))
+      go false c e g = kept (getD-set-other t at s (min (getD t at 0) a) 0 (eqb-false s at e))
+
+  lowered-falls : (s : ℕ) → s < length t → getD (lowered t at a) s 0 ≤ getD t s 0
+  lowered-falls s h = go (lowering s h)
+    where
+      go : {n : ℕ} → Lowering at a s (getD t s 0) n → n ≤ getD t s 0
+      go (kept g) = omega arith
+      go (took _ g l) = omega arith
 
 -- additions by plan
 module _ (f : Plan → ℕ) where
@@ -54,13 +68,13 @@ module _ (f : Plan → ℕ) where
   lowered-attained : (t : List ℕ) (p : Plan) → Valid p → Attained t → Attained (lowered t (slots p) (f p))
   lowered-attained t p v a =
       record {
-        long = length-set t (slots p) (min (getD t (slots p) 0) (f p)) ∙ a .long;
+        long = lowered-length t (slots p) (f p) ∙ a .long;
         attained = λ s h. go s (a .attained s h) (lowering t (slots p) (f p) s (omega (arith, a .long)));
       }
     where
       go : (s : ℕ) → (q : Plan) × (Valid q × ((slots q ≤ s) × (getD t s 0 ≡ f q))) → Lowering (slots p) (f p) s (getD t s 0) (getD (lowered t (slots p) (f p)) s 0)
           → (q : Plan) × (Valid q × ((slots q ≤ s) × (getD (lowered t (slots p) (f p)) s 0 ≡ f q)))
-      go s (q, (w, (b, e))) (kept g _) = (q, (w, (b, g ∙ e)))
+      go s (q, (w, (b, e))) (kept g) = (q, (w, (b, g ∙ e)))
       go s r (took e g _) = (p, (v, (omega arith, g)))
 
   by-attained : (t : List ℕ) (ps : List Plan) → ((p : Plan) → In p ps → Valid p) → Attained t → Attained (loweredBy f t ps)
@@ -73,21 +87,13 @@ module _ (f : Plan → ℕ) where
   unfolding loweredBy
   by-falls t [] s h = omega arith
   by-falls t (p ∷ ps) s h =
-      go (lowering t (slots p) (f p) s h) (by-falls (lowered t (slots p) (f p)) ps s (omega (arith, length-set t (slots p) (min (getD t (slots p) 0) (f p)))))
-    where
-      go : {n : ℕ} → Lowering (slots p) (f p) s (getD t s 0) n → getD (loweredBy f (lowered t (slots p) (f p)) ps) s 0 ≤ n → getD (loweredBy f (lowered t (slots p) (f p)) ps) s 0 ≤ getD t s 0
-      go (kept g _) b = omega arith
-      go (took _ g l) b = omega arith
+      omega (arith, by-falls (lowered t (slots p) (f p)) ps s (omega (arith, lowered-length t (slots p) (f p))), lowered-falls t (slots p) (f p) s h)
 
   by-least : (t : List ℕ) (ps : List Plan) {p : Plan} → In p ps → slots p < length t → getD (loweredBy f t ps) (slots p) 0 ≤ f p
   unfolding loweredBy
   by-least t ps {p} (here {bs = qs}) h =
-      go (lowering t (slots p) (f p) (slots p) h) (by-falls (lowered t (slots p) (f p)) qs (slots p) (omega (arith, length-set t (slots p) (min (getD t (slots p) 0) (f p)))))
-    where
-      go : {n : ℕ} → Lowering (slots p) (f p) (slots p) (getD t (slots p) 0) n → getD (loweredBy f (lowered t (slots p) (f p)) qs) (slots p) 0 ≤ n → getD (loweredBy f (lowered t (slots p) (f p)) qs) (slots p) 0 ≤ f p
-      go (kept g l) b = omega (arith, l refl)
-      go (took _ g _) b = omega arith
-  by-least t ps {p} (there {b = q} {bs = qs} o) h = by-least (lowered t (slots q) (f q)) qs o (omega (arith, length-set t (slots q) (min (getD t (slots q) 0) (f q))))
+      omega (arith, by-falls (lowered t (slots p) (f p)) qs (slots p) (omega (arith, lowered-length t (slots p) (f p))), lowered-to t (slots p) (f p) h)
+  by-least t ps (there {b = q} {bs = qs} o) h = by-least (lowered t (slots q) (f q)) qs o (omega (arith, lowered-length t (slots q) (f q)))
 
   -- no plan is looked at yet; one more is; all have been
   pub by-none : (a : ℕ) → a ≡ f (I 1 1) → loweredBy f (replicate 32 a) (drop 0 plans) ≡ bySlots f

@@ -29,10 +29,10 @@ module _ (k l : ℤ) (limit : ℕ) where
 
   -- it is none exactly when no larger limit up to 31 lowers the additions
   pub none-exactly : (nextLimit k l limit ≡ None) ↔ ((i : ℕ) → limit < i → i ≤ mostSlots → fewest k l limit ≤ fewest k l i)
-  none-exactly = (λ e. lowers (subst (Next (fewest k l) limit) e next-meets), λ q. sym (next-only None (none q)))
+  none-exactly = (λ e. none-lowers (subst (Next (fewest k l) limit) e next-meets), λ q. sym (next-only None (none q)))
     where
-      lowers : Next (fewest k l) limit None → (i : ℕ) → limit < i → i ≤ mostSlots → fewest k l limit ≤ fewest k l i
-      lowers (none q) = q
+      none-lowers : Next (fewest k l) limit None → (i : ℕ) → limit < i → i ≤ mostSlots → fewest k l limit ≤ fewest k l i
+      none-lowers (none q) = q
 
   -- so it is none at the highest limit
   pub none-highest : mostSlots ≤ limit → nextLimit k l limit ≡ None
