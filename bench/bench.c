@@ -9,7 +9,7 @@
 #include <stdlib.h>
 #include <string.h>
 
-enum { PAIRS = INPUTS, MOST_BYTES = 128, UNTOUCHED = 0xaa };
+enum { PAIRS = INPUTS, MOST_BYTES = 128, UNTOUCHED = 0x5c };
 
 /* ---- both sides ---- */
 
@@ -21,8 +21,8 @@ struct set {
 };
 
 /*
- * An archive may be older than the calls for rows from the top down, than those for packed columns, than that for the next limit, and than
- * the gateway's.
+ * An archive may be older than the calls for rows from the top down, than those for packed columns, than that for the next limit, than that
+ * for the dearest scalar, and than the gateway's.
  */
 #ifdef WITH_DOWN
 #define DOWN(call) call
@@ -39,10 +39,16 @@ struct set {
 #else
 #define NEXT_LIMIT(call) NULL
 #endif
+#ifdef WITH_DEAREST
+#define DEAREST(call) call
+#else
+#define DEAREST(call) NULL
+#endif
 
 static const struct set card = {
     {sheets_row, DOWN(sheets_row_down), sheets_joint, sheets_joint_codes, sheets_plan_j, sheets_plan_i, DOWN(sheets_plan_i_down),
-     sheets_cheapest, sheets_read, PACKING(sheets_pack), PACKING(sheets_unpack), NEXT_LIMIT(sheets_next_limit)},
+     sheets_cheapest, sheets_read, PACKING(sheets_pack), PACKING(sheets_unpack), NEXT_LIMIT(sheets_next_limit),
+     DEAREST(sheets_dearest)},
     &peer_card, 66, SHEETS_BYTES,
 };
 
@@ -50,7 +56,7 @@ static const struct set card = {
 static const struct set gateway = {
     {sheets_gateway_row, DOWN(sheets_gateway_row_down), sheets_gateway_joint, sheets_gateway_joint_codes, sheets_gateway_plan_j,
      sheets_gateway_plan_i, DOWN(sheets_gateway_plan_i_down), sheets_gateway_cheapest, sheets_gateway_read, PACKING(sheets_pack),
-     PACKING(sheets_unpack), NULL},
+     PACKING(sheets_unpack), NULL, NULL},
     &peer_gateway, 128, SHEETS_GATEWAY_BYTES,
 };
 #endif
@@ -73,8 +79,8 @@ static const struct length {
 enum { PLACES = SHEETS_PLACES(MOST_BYTES) };
 
 /*
- * Pairs of scalars of one length and with the same two signs, as far apart as the set's longest; a sheet of each, one behind the other; and
- * the rows of the joint form of each with their columns packed, as far apart as the longest.
+ * Pairs of scalars of one length and with the same two signs, as far apart as the set's longest; a sheet of each, one behind the other; the
+ * rows of the joint form of each with their columns packed, as far apart as the longest; and a size in bits for each.
  */
 struct inputs {
     const struct set *set;
@@ -85,12 +91,13 @@ struct inputs {
     size_t start[PAIRS + 1];
     uint8_t k_row[PAIRS * PLACES], l_row[PAIRS * PLACES], packed[PAIRS * PLACES];
     size_t columns[PAIRS];
+    uint32_t sizes[PAIRS];
 };
 
-/* What a call may write: two rows of digits and their codes, or a sheet, or packed columns. */
+/* What a call may write: two rows of digits and their codes, or a sheet, or packed columns, or a dearest scalar. */
 struct output {
     uint8_t k_digits[PLACES], l_digits[PLACES], sheet[SHEETS_GATEWAY_BYTES];
-    uint8_t k_codes[PLACES], l_codes[PLACES], packed[PLACES];
+    uint8_t k_codes[PLACES], l_codes[PLACES], packed[PLACES], scalar[SHEETS_DEAREST_BYTES];
 };
 
 static const uint8_t *k_at(const struct inputs *in, size_t i)
@@ -199,6 +206,12 @@ static uint64_t next_limit(const struct calls *c, const struct work *w, const st
     return c->next_limit(k_at(in, i), in->bytes, in->ks, l_at(in, i), in->bytes, in->ls, w->a);
 }
 
+static uint64_t dearest(const struct calls *c, const struct work *w, const struct inputs *in, size_t i, struct output *out)
+{
+    (void)w;
+    return c->dearest(in->sizes[i], out->scalar, sizeof out->scalar);
+}
+
 enum { WIDEST = 9, LARGEST = 13 };
 
 static const struct work works[] = {
@@ -223,6 +236,7 @@ static const struct work works[] = {
     {"next limit, limit 0", next_limit, 0, 0, NULL},
     {"next limit, limit 8", next_limit, 8, 0, NULL},
     {"next limit, limit 16", next_limit, 16, 0, NULL},
+    {"dearest", dearest, 0, 0, NULL},
 };
 
 /* Whether the set has the work's call, in this archive. */
@@ -232,6 +246,8 @@ static int is_there(const struct work *w, const struct set *set)
         return set->library.pack != NULL;
     if (w->call == next_limit)
         return set->library.next_limit != NULL;
+    if (w->call == dearest)
+        return set->library.dearest != NULL;
     return set->library.row_down != NULL || (w->call != row_down && w->call != plan_i_down);
 }
 
@@ -259,6 +275,13 @@ static void fill_columns(struct inputs *in)
     }
 }
 
+/* In each group of pairs the size of their scalars and the sizes next below it. */
+static void fill_sizes(struct inputs *in)
+{
+    for (size_t i = 0; i < PAIRS; i++)
+        in->sizes[i] = (uint32_t)(8 * in->bytes - i % GROUP);
+}
+
 /* ---- the check ---- */
 
 /* Ends the program unless both sides give the same answer and leave the same bytes. */
@@ -278,6 +301,16 @@ static void check(const struct work *w, const struct inputs *in)
     }
 }
 
+/* The check with every size that has a dearest scalar, and with 0 and some that are too large. */
+static void check_sizes(const struct work *w, struct inputs *in)
+{
+    for (size_t first = 0; first <= 8 * SHEETS_DEAREST_BYTES + 1; first += PAIRS) {
+        for (size_t i = 0; i < PAIRS; i++)
+            in->sizes[i] = (uint32_t)(first + i);
+        check(w, in);
+    }
+}
+
 /* The check with a minus in k, in l and in both, and last with plus, which leaves the inputs for the times. */
 static void check_signs(const struct work *w, struct inputs *in, struct output *out)
 {
@@ -290,6 +323,10 @@ static void check_signs(const struct work *w, struct inputs *in, struct output *
             fill_sheets(in, w->writes, out);
         if (w->call == pack || w->call == unpack)
             fill_columns(in);
+        if (w->call == dearest) {
+            check_sizes(w, in);
+            fill_sizes(in);
+        }
         check(w, in);
     }
 }

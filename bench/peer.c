@@ -775,6 +775,25 @@ static uint64_t peer_next_limit(const uint8_t *k, size_t kn, uint32_t ks, const 
     return first_fewer(fewest, limit);
 }
 
+/* ---- the dearest scalar of a size ---- */
+
+/* A 1 at place 0 and at every odd place below the size: bytes of four such places, above them what is left of one, and zeros. */
+static uint64_t peer_dearest(uint32_t bits, uint8_t *scalar, size_t room)
+{
+    size_t whole = bits / 8, above = MOST_BYTES - whole;
+
+    if (bits < 1 || bits > 8 * MOST_BYTES)
+        return refusal(15, 0);
+    if (room != MOST_BYTES)
+        return refusal(3, 0);
+    memset(scalar, 0, above);
+    memset(scalar + above, 0xaa, whole);
+    if (above > 0)
+        scalar[above - 1] = 0xaa & ((1u << bits % 8) - 1);
+    scalar[MOST_BYTES - 1] |= 1;
+    return bits / 2 + 1;
+}
+
 /* ---- the reader ---- */
 
 /* A scalar of the header. */
@@ -1134,4 +1153,5 @@ static uint64_t peer_unpack(size_t columns, const uint8_t *packed, size_t room, 
 const struct calls CALLS = {
     peer_row,         peer_row_down, peer_joint, peer_joint_codes, peer_plan_j, peer_plan_i,
     peer_plan_i_down, peer_cheapest, peer_read,  peer_pack,        peer_unpack, peer_next_limit,
+    peer_dearest,
 };

@@ -15,17 +15,18 @@
  * that writes a row, a joint form or a sheet has two numbers, both 0 where a question is missed: in bits 0 to 15, sheets_length, the length
  * written; in bits 16 to 31 for a row or a joint form, sheets_weight, how many of its digits, or of its columns, are not zero, and for a
  * sheet, sheets_additions, its additions, those that fill the table included. sheets_next_limit has the limit that pays in bits 0 to 15,
- * sheets_limit, and its additions in bits 16 to 31, sheets_additions. sheets_read has in bits 0 to 31, sheets_line, the line at fault, 0 where
- * the sheet is accepted. sheets_pack and sheets_unpack have 0 there. Questions are asked in the order given at each call, and the first one
- * missed is the answer:
+ * sheets_limit, and its additions in bits 16 to 31, sheets_additions. sheets_dearest has in bits 0 to 31, sheets_most, the most digits that
+ * are not 0, and sheets_read has there, sheets_line, the line at fault, 0 where the sheet is accepted. sheets_pack and sheets_unpack have 0
+ * there. Questions are asked in the order given at each call, and the first one missed is the answer:
  *
  *    1   has each scalar 1 to 66 bytes?
  *    2   is each window odd, 1 to 31?
  *    3   has each buffer room: a digit or code buffer 8 places for each byte of the scalar, of the longer one for two, and one more
  *        (SHEETS_PLACES); a sheet buffer 16,384 bytes (SHEETS_BYTES); of columns that are packed or unpacked, each row and the buffer
- *        a place for each column?
+ *        a place for each column? Has the buffer for the dearest scalar 66 bytes (SHEETS_DEAREST_BYTES), no fewer and no more?
  *    4   is the slot limit at most 31?
  *   12   is each digit to be packed -1, 0 or 1, and each byte to be unpacked at most 8?
+ *   15   is the size 1 to 528 bits?
  *
  * A refusal changes no byte of any buffer. What is handed in as const is only read. Nothing is kept between calls, and nothing is
  * allocated.
@@ -43,10 +44,14 @@
 extern "C" {
 #endif
 
-/* The places that a digit or code buffer needs for a scalar of so many bytes; the bytes that a sheet buffer needs, and the gateway's. */
+/*
+ * The places that a digit or code buffer needs for a scalar of so many bytes; the bytes that a sheet buffer needs, and the gateway's; the
+ * bytes that the dearest scalar fills.
+ */
 #define SHEETS_PLACES(bytes) (8 * (size_t)(bytes) + 1)
 #define SHEETS_BYTES 16384
 #define SHEETS_GATEWAY_BYTES 32768
+#define SHEETS_DEAREST_BYTES 66
 
 /*
  * The row of a scalar for the window m. Questions 1, 2, 3. The length is the number of places, at most 529, and the weight the number of
@@ -122,6 +127,14 @@ uint64_t sheets_cheapest(const uint8_t *k, size_t kn, uint32_t ks, const uint8_t
 uint64_t sheets_next_limit(const uint8_t *k, size_t kn, uint32_t ks, const uint8_t *l, size_t ln, uint32_t ls, uint32_t limit);
 
 /*
+ * The dearest scalar of so many bits: the smallest, without a sign, below 2^bits whose row with window 1 has the most digits that are not 0.
+ * Questions 15, 3. It fills the 66 bytes of the buffer, the most significant first, zeros in front; sheets_most is how many digits are not 0.
+ * With it for k and for l the sheet of plan I with windows 1 and 1 has the most additions that scalars of the size have, with any signs. This
+ * is the card's call, and the gateway has none.
+ */
+uint64_t sheets_dearest(uint32_t bits, uint8_t *scalar, size_t room);
+
+/*
  * Judges a sheet, whatever its n bytes are: 0 if it is accepted for the scalars of its header; else the number of the question missed
  * and the line at fault, counted from 1:
  *
@@ -171,6 +184,7 @@ static inline uint32_t sheets_length(uint64_t answer) { return (uint32_t)(answer
 static inline uint32_t sheets_limit(uint64_t answer) { return (uint32_t)(answer & 0xffffu); }
 static inline uint32_t sheets_weight(uint64_t answer) { return (uint32_t)((answer >> 16) & 0xffffu); }
 static inline uint32_t sheets_additions(uint64_t answer) { return (uint32_t)((answer >> 16) & 0xffffu); }
+static inline uint32_t sheets_most(uint64_t answer) { return (uint32_t)(answer & 0xffffffffu); }
 static inline uint32_t sheets_line(uint64_t answer) { return (uint32_t)(answer & 0xffffffffu); }
 
 #ifdef __cplusplus

@@ -3,7 +3,8 @@
  * of the scope document, and for other scalars by reading the digits back and counting those that are not 0; with every pair of signs.
  * All this by the card's calls and by the gateway's, each at its own limits; then both sets at the limits of either. What has to do with
  * rows is done once more with rows from the top down. Columns are packed and unpacked, those of joint forms and others. The next limit that
- * pays is asked at every limit, beside the cheapest sheets there.
+ * pays is asked at every limit, beside the cheapest sheets there. The dearest scalar is asked for every size, beside a search of the small
+ * ones and the sheets of plan I.
  */
 #include "sheets.h"
 
@@ -88,6 +89,7 @@ static void refused(uint64_t answer, uint32_t number, int line)
     check(answer == (uint64_t)number << 32 && sheets_number(answer) == number, "the question missed", line);
     check(sheets_length(answer) == 0 && sheets_weight(answer) == 0 && sheets_additions(answer) == 0, "no length and no weight", line);
     check(sheets_limit(answer) == 0, "no limit", line);
+    check(sheets_most(answer) == 0, "no most", line);
 }
 
 /* The parts of made-up answers, of which none runs into another. */
@@ -98,6 +100,7 @@ static void parts(void)
     CHECK(sheets_number(all) == 0x89abcdef && sheets_line(all) == 0x76543210);
     CHECK(sheets_length(all) == 0x3210 && sheets_weight(all) == 0x7654 && sheets_additions(all) == 0x7654);
     CHECK(sheets_limit(all) == 0x3210);
+    CHECK(sheets_most(all) == 0x76543210 && sheets_most(late) == 0x12345);
     CHECK(sheets_number(late) == 11 && sheets_line(late) == 0x12345);
     for (bit = 0; bit < 64; bit++) {
         uint64_t answer = UINT64_C(1) << bit;
@@ -105,6 +108,7 @@ static void parts(void)
         CHECK(sheets_weight(answer) == (16 <= bit && bit < 32 ? answer >> 16 : 0));
         CHECK(sheets_additions(answer) == sheets_weight(answer));
         CHECK(sheets_limit(answer) == (bit < 16 ? answer : 0));
+        CHECK(sheets_most(answer) == (bit < 32 ? answer : 0));
         CHECK(sheets_line(answer) == (bit < 32 ? answer : 0));
         CHECK(sheets_number(answer) == (32 <= bit ? answer >> 32 : 0));
     }
@@ -1563,6 +1567,225 @@ static void next_limits(void)
     negative_next_limits();
 }
 
+/* ---- the dearest scalar of a size ---- */
+
+/* The card's call alone; the gateway has none. */
+enum { MOST_BITS = 528, DEAREST_BYTES = 66 };
+
+/* An answer that is to tell so many digits: every bit of it, and each part by its shift and its mask. */
+static void tells(uint64_t answer, uint32_t most, int line)
+{
+    check(answer == most, "the whole answer", line);
+    check(sheets_number(answer) == 0 && answer >> 32 == 0, "no question is missed", line);
+    check(sheets_most(answer) == most && (answer & 0xffffffff) == most, "how many digits are not 0", line);
+}
+
+/* The scalar that a call writes that is to tell so many digits. */
+static struct bytes dearest(uint32_t bits, uint32_t most, int line)
+{
+    uint8_t *scalar = lend(&first);
+    tells(sheets_dearest(bits, scalar, DEAREST_BYTES), most, line);
+    check(kept(&first, DEAREST_BYTES), "no other byte", line);
+    return bytes_of(scalar, DEAREST_BYTES);
+}
+
+/* A call that is to tell so many digits, and to write these bytes behind zeros. */
+static void dearest_is(uint32_t bits, uint32_t most, const uint8_t *last, size_t n, int line)
+{
+    struct bytes scalar = dearest(bits, most, line);
+    check(zeros_above(scalar.at, 0, DEAREST_BYTES - n), "zeros in front", line);
+    check(memcmp(scalar.at + DEAREST_BYTES - n, last, n) == 0, "the bytes behind them", line);
+    check(only_read(scalar), "the scalar is only read", line);
+}
+
+#define DEAREST(bits, most, ...) \
+    dearest_is((bits), (most), (const uint8_t[]){__VA_ARGS__}, sizeof(const uint8_t[]){__VA_ARGS__}, __LINE__)
+
+static void dearest_refused(uint32_t bits, size_t room, uint32_t number, int line)
+{
+    refused(sheets_dearest(bits, lend(&first), room), number, line);
+    check(kept(&first, 0), "the buffer is as lent", line);
+}
+
+#define DEAREST_REFUSED(bits, room, number) dearest_refused((bits), (room), (number), __LINE__)
+
+/* Samples written out. The last odd place of 527 bits is 525. */
+static void dearest_samples(void)
+{
+    uint8_t all[DEAREST_BYTES];
+
+    DEAREST(1, 1, 0x01);
+    DEAREST(2, 2, 0x03);
+    DEAREST(3, 2, 0x03);
+    DEAREST(4, 3, 0x0b);
+    DEAREST(5, 3, 0x0b);
+    DEAREST(8, 5, 0xab);
+    DEAREST(16, 9, 0xaa, 0xab);
+    memset(all, 0xaa, sizeof all);
+    all[DEAREST_BYTES - 1] = 0xab;
+    dearest_is(256, 129, all + 34, 32, __LINE__);
+    dearest_is(528, 265, all, 66, __LINE__);
+    all[0] = 0x2a;
+    dearest_is(527, 264, all, 66, __LINE__);
+}
+
+/* The sizes to 16 bits: of all scalars below 2^bits the first whose row tells the most. Each row is asked for once. */
+static void searched_sizes(void)
+{
+    uint8_t found[2] = {0, 0};
+    uint32_t bits = 1, most = 0, value;
+    for (value = 0; value < 65536; value++) {
+        uint8_t scalar[2] = {(uint8_t)(value >> 8), (uint8_t)value}, digits[SHEETS_PLACES(2)];
+        uint32_t weight = sheets_weight(sheets_row(scalar, 2, 0, 1, digits, sizeof digits));
+        if (weight > most) {
+            most = weight;
+            memcpy(found, scalar, 2);
+        }
+        if (value + 1 == UINT32_C(1) << bits)
+            dearest_is(bits++, most, found, 2, __LINE__);
+    }
+    CHECK(bits == 17);
+}
+
+/* Whether a scalar has a 1 at place 0 and at every odd place below the size, and nowhere else. */
+static int alternates(struct bytes scalar, uint32_t bits)
+{
+    uint8_t all[DEAREST_BYTES] = {0};
+    uint32_t place;
+    all[DEAREST_BYTES - 1] = 1;
+    for (place = 1; place < bits; place += 2)
+        all[DEAREST_BYTES - 1 - place / 8] |= (uint8_t)(1 << place % 8);
+    return memcmp(scalar.at, all, sizeof all) == 0;
+}
+
+/* A scalar that is not 0, less one. */
+static struct bytes less_one(struct bytes scalar)
+{
+    uint8_t all[DEAREST_BYTES];
+    size_t i = scalar.n;
+    memcpy(all, scalar.at, scalar.n);
+    while (i > 0 && all[i - 1]-- == 0)
+        i--;
+    return bytes_of(all, scalar.n);
+}
+
+/* The weight that the row call tells for window 1. */
+static uint32_t row_weight(struct bytes scalar, int line)
+{
+    uint8_t digits[MOST_PLACES];
+    uint64_t answer = by->row(scalar.at, scalar.n, scalar.sign, 1, digits, SHEETS_PLACES(scalar.n));
+    check(sheets_number(answer) == 0, "there is a row", line);
+    return sheets_weight(answer);
+}
+
+/* Every size, beside the row of the scalar and of the one before it; and asked once more. */
+static void every_size(void)
+{
+    uint32_t bits, smaller = 0;
+    for (bits = 1; bits <= MOST_BITS; bits++) {
+        struct bytes scalar = dearest(bits, bits / 2 + 1, __LINE__), less = less_one(scalar);
+        uint32_t most = sheets_most(sheets_dearest(bits, lend(&second), DEAREST_BYTES));
+        CHECK(memcmp(first.all, second.all, sizeof first.all) == 0);
+        CHECK(most >= smaller);
+        CHECK(alternates(scalar, bits));
+        CHECK(bit_length(scalar) <= bits);
+        CHECK(row_weight(scalar, __LINE__) == most);
+        CHECK(row_weight(less, __LINE__) < most);
+        CHECK(only_read(scalar) & only_read(less));
+        smaller = most;
+    }
+}
+
+/* The additions of the sheet of plan I with windows 1 and 1. */
+static uint32_t plain_additions(struct bytes k, struct bytes l, int line)
+{
+    static uint8_t sheet[SHEETS_BYTES];
+    uint64_t answer = write_sheet(plan_i(1, 1), k, l, sheet, sizeof sheet);
+    check(sheets_number(answer) == 0, "there is a sheet", line);
+    return sheets_additions(answer);
+}
+
+/* Two scalars that are to have no more additions than this. */
+static void no_dearer(struct bytes k, struct bytes l, uint32_t additions, int line)
+{
+    check(plain_additions(k, l, line) <= additions, "no more additions", line);
+    check(only_read(k) & only_read(l), "the scalars are only read", line);
+}
+
+/* A scalar of the size: any, or the dearest with one bit turned. */
+static struct bytes any_of_size(uint32_t bits, struct bytes scalar)
+{
+    size_t n = (bits + 7) / 8, place = next_number() % bits;
+    struct bytes any = any_scalar(n);
+    if (next_number() % 2 == 0) {
+        memcpy(any.at, scalar.at + scalar.n - n, n);
+        any.at[n - 1 - place / 8] ^= (uint8_t)(1 << place % 8);
+    }
+    any.at[0] &= (uint8_t)(255 >> (8 * n - bits));
+    memcpy(any.copy, any.at, n);
+    return any;
+}
+
+/*
+ * Every size: the additions with the dearest scalar twice, with every two signs. No two scalars have more: all of the sizes to 6 bits, and
+ * some of some others, 528 bits among them.
+ */
+static void dearest_sheets(void)
+{
+    uint32_t bits, i;
+    for (bits = 1; bits <= MOST_BITS; bits++) {
+        uint32_t most = bits / 2 + 1, additions = 2 * most - 1, values = bits <= 6 ? UINT32_C(1) << bits : 0;
+        struct bytes scalar = dearest(bits, most, __LINE__);
+        for (i = 0; i < 4; i++)
+            CHECK(plain_additions(with_sign(scalar, i % 2), with_sign(scalar, i / 2), __LINE__) == additions);
+        for (i = 0; i < values * values; i++) {
+            struct bytes k = byte((uint8_t)(i / values)), l = byte((uint8_t)(i % values));
+            no_dearer(with_sign(k, next_number() % 2), with_sign(l, next_number() % 2), additions, __LINE__);
+        }
+        for (i = 0; i < 16 && bits % 17 == 1; i++)
+            no_dearer(any_of_size(bits, scalar), any_of_size(bits, scalar), additions, __LINE__);
+        CHECK(only_read(scalar));
+    }
+}
+
+static void dearests(void)
+{
+    static const struct calls *const ends[] = {&card, &card_down};
+    static const uint32_t no_sizes[] = {0, 529, 530, 784, 65536, 65537, 66064, 2147483648u, 2147483904u, 4294967295u};
+    static const size_t no_rooms[] = {0, 1, 65, 67, 132, 322};
+    enum { NO_SIZES = sizeof no_sizes / sizeof *no_sizes, NO_ROOMS = sizeof no_rooms / sizeof *no_rooms };
+    uint32_t bits;
+    size_t i, j;
+
+    CHECK(DEAREST_BYTES == SHEETS_DEAREST_BYTES);
+    dearest_samples();
+    searched_sizes();
+    for (i = 0; i < 2; i++) {
+        by = ends[i];
+        every_size();
+        dearest_sheets();
+    }
+    by = &card;
+
+    /* 15. is the size 1 to 528 bits? */
+    for (i = 0; i < NO_SIZES; i++) {
+        DEAREST_REFUSED(no_sizes[i], 66, 15);
+        for (j = 0; j < NO_ROOMS; j++)
+            DEAREST_REFUSED(no_sizes[i], no_rooms[j], 15);
+    }
+
+    /* 3. has the buffer 66 bytes, no fewer and no more? 1 and 528 bits, and sizes between */
+    for (bits = 1; bits <= MOST_BITS; bits += 17)
+        for (j = 0; j < NO_ROOMS; j++)
+            DEAREST_REFUSED(bits, no_rooms[j], 3);
+
+    /* no buffer at all */
+    for (i = 0; i < NO_SIZES; i++)
+        CHECK(sheets_dearest(no_sizes[i], NULL, 0) == (uint64_t)15 << 32);
+    for (bits = 1; bits <= MOST_BITS; bits += 17)
+        CHECK(sheets_dearest(bits, NULL, 0) == (uint64_t)3 << 32);
+}
+
 /* ---- the reader ---- */
 
 static void read_is(struct bytes sheet, uint32_t number, uint32_t at, int line)
@@ -2009,6 +2232,7 @@ int main(void)
     by = &card;
     columns();
     next_limits();
+    dearests();
     scalar_limits(&card, &gateway);
     scalar_limits(&card_down, &gateway_down);
     reading_limits();

@@ -1,6 +1,6 @@
 -- What the C host can rely on: the parts that sheets.h takes out of the number that a call returns are the number of the question missed,
--- and the length and the weight, or the additions, of what was written, or the limit that pays and its additions, or the reader's line, whatever
--- was asked. And that the rows of a joint call can always be packed.
+-- and the length and the weight, or the additions, of what was written, or the limit that pays and its additions, or the most digits that are
+-- not 0, or the reader's line, whatever was asked. And that the rows of a joint call can always be packed.
 use mathlib.Core.Path.{_≡_, refl, ap, ap₂, _∙_}
 use mathlib.Core.Logic.{_↔_}
 use mathlib.Core.List.{List}
@@ -13,6 +13,9 @@ use Rattle.digits.specs.Two.{Two, P, Q, of, two}
 use Rattle.forms.specs.Joint.{joint}
 use Rattle.forms.specs.Joint.Value.{joint-small}
 use Rattle.digits.specs.declared.limits.Limits.{Limits}
+use Rattle.dearest.specs.Call as Dear
+use Rattle.dearest.specs.Call.{dearestAnswer}
+use Rattle.dearest.specs.declared.answer.Dearest.{Dearest}
 use Rattle.packing.specs.Call as Packs
 use Rattle.packing.specs.Call.{packAnswer}
 use Rattle.packing.specs.Promise.{rows-pack}
@@ -46,6 +49,7 @@ use Rattle.host.specs.Told.{
   SheetFits,
   toldNext,
   NextFits,
+  toldDearest,
   number,
   line,
   toldJudgement,
@@ -55,10 +59,11 @@ use Rattle.host.specs.Told.{
   sheetsLimit,
   sheetsWeight,
   sheetsAdditions,
+  sheetsMost,
   sheetsLine,
 }
 use Rattle.host.specs.Told.Lines.{line-within}
-use Rattle.host.specs.Told.Parts.{Tellable, row-fits, down-fits, joint-fits, codes-fits, j-fits, i-fits, i-down-fits, cheapest-fits, next-fits, Larger, next-larger}
+use Rattle.host.specs.Told.Parts.{Tellable, row-fits, down-fits, joint-fits, codes-fits, j-fits, i-fits, i-down-fits, cheapest-fits, next-fits, Larger, next-larger, dearest-fits}
 
 -- a row or a joint form
 pub record RecodedParts (r : Recoded) : Type 0 where
@@ -77,6 +82,11 @@ pub record NextParts (n : NextLimit) : Type 0 where
   pub number-is : sheetsNumber (toldNext n) ≡ Choosing.nextNumber n
   pub limit-is : sheetsLimit (toldNext n) ≡ Choosing.limitTold n
   pub additions-are : sheetsAdditions (toldNext n) ≡ Choosing.additionsTold n
+
+-- the dearest scalar
+pub record DearestParts (d : Dearest) : Type 0 where
+  pub number-is : sheetsNumber (toldDearest d) ≡ Dear.number d
+  pub most-is : sheetsMost (toldDearest d) ≡ Dear.mostTold d
 
 -- a sheet that is read
 pub record JudgementParts (j : Judgement) : Type 0 where
@@ -168,6 +178,11 @@ next-none limits k k-sign l l-sign limit = (zero (nextAnswer limits k k-sign l l
     zero nexts.BadLimit h e = absurd (omega arith)
     zero (nexts.Pays n a) h e = absurd (omega arith)
     zero nexts.None h e = refl
+
+-- the dearest scalar, whatever the size and the room
+pub dearest-parts : (size room : ℕ) → DearestParts (dearestAnswer size room)
+dearest-parts size room =
+    let fits = dearest-fits size room in record { number-is = omega (arith, fits); most-is = omega (arith, fits) }
 
 -- columns packed or unpacked
 pub packing-parts : (p : Packing) → PackingParts p

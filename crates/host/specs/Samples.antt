@@ -5,11 +5,12 @@ use Prim.Native.Nat.{ℕ}
 use lib.Dec.{T}
 use Rattle.forms.specs.Test.{Test, equal, everyOf}
 use Rattle.chooser.specs.declared.next.NextLimit.the-variants as next
+use Rattle.dearest.specs.declared.answer.Dearest.the-variants as dearest
 use Rattle.packing.specs.declared.answer.Packing.the-variants as packing
 use Rattle.recode.specs.declared.answer.Recoded.the-variants as recoded
 use Rattle.writer.specs.declared.answer.Sheet.the-variants as sheet
 use Rattle.reader.specs.declared.judge.Judgement.the-variants.{Accepted, Refused}
-use Rattle.host.specs.Told.{toldRecoded, toldSheet, toldNext, toldJudgement, toldPacking, sheetsNumber, sheetsLength, sheetsLimit, sheetsWeight, sheetsAdditions, sheetsLine}
+use Rattle.host.specs.Told.{toldRecoded, toldSheet, toldNext, toldDearest, toldJudgement, toldPacking, sheetsNumber, sheetsLength, sheetsLimit, sheetsWeight, sheetsAdditions, sheetsMost, sheetsLine}
 
 -- a number, and what it is
 pub data Sample : Type 0 where
@@ -37,6 +38,10 @@ samples =
     ∷ is (toldNext next.None) 0
     ∷ is (toldNext next.BadScalar) 4294967296
     ∷ is (toldNext next.BadLimit) 17179869184
+    -- 265 digits that are not 0; questions 15 and 3
+    ∷ is (toldDearest (dearest.Found 265)) 265
+    ∷ is (toldDearest dearest.BadSize) 64424509440
+    ∷ is (toldDearest dearest.BadRoom) 12884901888
     -- a sheet that is accepted, and one that misses question 9 at line 531
     ∷ is (toldJudgement Accepted) 0
     ∷ is (toldJudgement (Refused 9 531)) 38654706195
@@ -50,6 +55,7 @@ samples =
     ∷ is (sheetsLimit 9920249032579756560) 12816
     ∷ is (sheetsWeight 9920249032579756560) 30292
     ∷ is (sheetsAdditions 9920249032579756560) 30292
+    ∷ is (sheetsMost 9920249032579756560) 1985229328
     ∷ is (sheetsLine 9920249032579756560) 1985229328
     ∷ []
 

@@ -4,6 +4,8 @@ pub mod Lines
 use Prim.Native.Nat.{ℕ, _+_, _*_, _/_, _%_, _^_, _<_}
 use Rattle.chooser.specs.Next as Choosing
 use Rattle.chooser.specs.declared.next.NextLimit.{NextLimit}
+use Rattle.dearest.specs.Call as Dear
+use Rattle.dearest.specs.declared.answer.Dearest.{Dearest}
 use Rattle.packing.specs.Call as Packs
 use Rattle.packing.specs.declared.answer.Packing.{Packing}
 use Rattle.recode.specs.Call as Recoding
@@ -47,6 +49,10 @@ toldNext n = numbered (Choosing.nextNumber n) (joined (Choosing.limitTold n) (Ch
 abbrev pub NextFits : NextLimit → Type 0
 NextFits n = Fits (Choosing.limitTold n) (Choosing.additionsTold n)
 
+-- the dearest scalar: the number, and below it how many digits are not 0
+abbrev pub toldDearest : Dearest → ℕ
+toldDearest d = numbered (Dear.number d) (Dear.mostTold d)
+
 -- the number of the reader's question that is missed, 0 where none is
 abbrev pub number : Judgement → ℕ
 number Accepted = 0
@@ -85,6 +91,9 @@ sheetsWeight told = told / 2 ^ 16 % 2 ^ 16
 abbrev pub sheetsAdditions : ℕ → ℕ
 sheetsAdditions told = told / 2 ^ 16 % 2 ^ 16
 
--- sheets_line: bits 0 to 31
+-- sheets_most and sheets_line: bits 0 to 31
+abbrev pub sheetsMost : ℕ → ℕ
+sheetsMost told = told % 2 ^ 32
+
 abbrev pub sheetsLine : ℕ → ℕ
 sheetsLine told = told % 2 ^ 32

@@ -8,10 +8,11 @@ ghost use Rattle.codes.specs.Call.{codesAnswer, codesDigits, codesBuffer};
 ghost use Rattle.writer.specs.Call.{jAnswer, jBuffer, iAnswer, iBuffer, iDownAnswer, iDownBuffer};
 ghost use Rattle.chooser.specs.Call.{cheapestAnswer, cheapestBuffer};
 ghost use Rattle.chooser.specs.Next.{nextAnswer};
+ghost use Rattle.dearest.specs.Call.{dearestAnswer, dearestBuffer};
 ghost use Rattle.packing.specs.Call.{packAnswer, packBuffer, unpackAnswer, unpackBuffer};
 ghost use Rattle.sheet.specs.Answer.{answer};
 ghost use Rattle.reader.specs.Judgement.{judgement};
-ghost use Rattle.host.specs.Told.{toldRecoded, toldSheet, toldNext, toldJudgement, toldPacking};
+ghost use Rattle.host.specs.Told.{toldRecoded, toldSheet, toldNext, toldDearest, toldJudgement, toldPacking};
 
 // The row of a scalar for the window m.
 #[no_mangle]
@@ -149,6 +150,15 @@ pub extern "C" fn sheets_next_limit(k: &[u8], k_sign: u32, l: &[u8], l_sign: u32
     ensures answer { λ r. ⌜ r ≡ toldNext (nextAnswer card (now (k .entry)) «k_sign» (now (l .entry)) «l_sign» limit) ⌝ }
 {
     crate::told::next(chooser::next_limit(k, k_sign, l, l_sign, limit))
+}
+
+// The smallest scalar of so many bits whose row with window 1 has the most digits that are not 0.
+#[no_mangle]
+pub extern "C" fn sheets_dearest(bits: u32, scalar: &mut [u8]) -> u64
+    ensures answer { λ r. ⌜ r ≡ toldDearest (dearestAnswer bits (length (now (scalar .entry)))) ⌝ }
+    ensures buffer { λ _. ⌜ now (scalar .exit) ≡ dearestBuffer bits (now (scalar .entry)) ⌝ }
+{
+    crate::told::dearest(dearest::dearest(bits, scalar))
 }
 
 // Reads a sheet: accepted, or the first question that it misses.

@@ -4,8 +4,10 @@ mod gateway;
 mod told;
 
 pub use calls::sheets_cheapest;
+pub use calls::sheets_dearest;
 pub use calls::sheets_joint;
 pub use calls::sheets_joint_codes;
+pub use calls::sheets_next_limit;
 pub use calls::sheets_pack;
 pub use calls::sheets_plan_i;
 pub use calls::sheets_plan_i_down;

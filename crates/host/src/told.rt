@@ -1,7 +1,8 @@
 ghost use mathlib.Core.Path.{_≡_};
 ghost use Prim.Native.Nat.{_^_, _<_};
-ghost use Rattle.host.specs.Told.{numbered, joined, Fits, toldRecoded, RecodedFits, toldSheet, SheetFits, toldNext, NextFits, line, toldJudgement, toldPacking};
+ghost use Rattle.host.specs.Told.{numbered, joined, Fits, toldRecoded, RecodedFits, toldSheet, SheetFits, toldNext, NextFits, toldDearest, line, toldJudgement, toldPacking};
 use chooser::NextLimit;
+use dearest::Dearest;
 use packing::Packing;
 use reader::Judgement;
 use recode::Recoded;
@@ -35,6 +36,13 @@ pub fn next(answer: NextLimit) -> u64
         answer.number(),
         join(answer.limit() as usize, answer.additions() as usize),
     )
+}
+
+// What is told of the dearest scalar.
+pub fn dearest(answer: Dearest) -> u64
+    ensures { λ r. ⌜ r ≡ toldDearest answer ⌝ }
+{
+    numbered(answer.number(), answer.most() as usize)
 }
 
 // What is told of a sheet that was read.

@@ -1,5 +1,7 @@
 //! The answers to the calls: the number that each returns, and what it leaves in the buffers.
 
+use crate::dearest::Dearest;
+use crate::limits::Limits;
 use crate::next_limit::NextLimit;
 use crate::reader::Refusal;
 use crate::sheet::{columns, Sheet};
@@ -26,6 +28,8 @@ pub enum Answer {
     Unpacked(Vec<i8>, Vec<i8>),
     /// The next limit that pays, if any does.
     NextLimit(Option<NextLimit>),
+    /// The dearest scalar of a size.
+    Dearest(Dearest),
 }
 
 impl Answer {
@@ -38,7 +42,8 @@ impl Answer {
     }
 
     /// The number that the C call returns: in bits 32 to 63 the question missed; below them the
-    /// reader's line, or what was written, or the limit that pays and its additions.
+    /// reader's line, or what was written, or the limit that pays and its additions, or the most
+    /// digits that are not 0.
     pub fn code(&self) -> u64 {
         match self {
             Answer::Refused(Refusal { number, line }) => u64::from(*number) << 32 | *line as u64,
@@ -48,6 +53,7 @@ impl Answer {
             }
             Answer::Sheet { bytes, additions } => written(bytes.len(), *additions),
             Answer::NextLimit(Some(NextLimit { limit, additions })) => written(*limit, *additions),
+            Answer::Dearest(Dearest { most, .. }) => *most as u64,
             Answer::Accepted
             | Answer::Packed(_)
             | Answer::Unpacked(_, _)
@@ -79,6 +85,9 @@ impl Answer {
                 leave_digits(k_row, &mut k_buffer[..k_row.len()]);
                 leave_digits(l_row, &mut l_buffer[..l_row.len()]);
             }
+            (Answer::Dearest(Dearest { scalar, .. }), [buffer]) => {
+                buffer.copy_from_slice(&scalar.to_bytes(Limits::Card.bytes()));
+            }
             (Answer::Refused(_) | Answer::Accepted | Answer::NextLimit(_), _) => {}
             _ => unreachable!("every answer has its own number of buffers"),
         }
@@ -109,7 +118,6 @@ mod tests {
     use super::*;
     use crate::big::Big;
     use crate::calls::parse;
-    use crate::limits::Limits;
     use crate::plan::Plan;
     use crate::scalars;
 
@@ -190,6 +198,19 @@ mod tests {
         assert_eq!(Answer::NextLimit(Some(next)).code(), 0x0210_001f);
     }
 
+    #[test]
+    fn codes_of_dearest_scalars() {
+        assert_eq!(code("dearest 1 66"), 1);
+        assert_eq!(code("dearest 4 66"), 3);
+        assert_eq!(code("dearest 528 66"), 265);
+        assert_eq!(code("dearest 528 65"), 3 << 32);
+        assert_eq!(code("dearest 528 67"), 3 << 32);
+        assert_eq!(code("dearest 529 66"), 15 << 32);
+        assert_eq!(code("dearest 0 67"), 15 << 32);
+        let dearest = Dearest { scalar: Big::ZERO, most: 0x1_0000 };
+        assert_eq!(Answer::Dearest(dearest).code(), 0x1_0000);
+    }
+
     /// A row and a joint form with as many digits and columns that are not zero as the rules allow,
     /// sheets of every plan, and the longest sheet with the most additions that a header can state.
     fn every_part_has_room(limits: Limits, row: (usize, usize), joint: (usize, usize)) {
@@ -236,5 +257,13 @@ mod tests {
         let mut buffers = [vec![9; 4], vec![7; 3]];
         Answer::Unpacked(vec![-1, 0, 1], vec![1, 0, -1]).leave_in(&mut buffers);
         assert_eq!(buffers, [vec![255, 0, 1, 9], vec![1, 0, 255]]);
+    }
+
+    #[test]
+    fn a_dearest_scalar_fills_its_buffer() {
+        let mut buffers = [vec![9; 66]];
+        let scalar = Big::from_bytes(&[1, 0, 2]);
+        Answer::Dearest(Dearest { scalar, most: 2 }).leave_in(&mut buffers);
+        assert_eq!(buffers[0], [&[0; 63][..], &[1, 0, 2]].concat());
     }
 }

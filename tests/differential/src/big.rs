@@ -1,6 +1,7 @@
 //! Signed whole numbers of 1,152 bits in two's complement: room for every scalar (1,024 bits), every
 //! remainder of a recoding, and every accumulator that 1,024 doublings can reach.
 
+use std::cmp::Ordering;
 use std::fmt;
 
 const WORDS: usize = 18;
@@ -29,6 +30,12 @@ impl Big {
             words[place / 16] |= u64::from(value) << (place % 16 * 4);
         }
         Big(words)
+    }
+
+    /// A number not below zero in so many bytes, most significant first.
+    pub fn to_bytes(self, count: usize) -> Vec<u8> {
+        let byte = |place: usize| (self.0[place / 8] >> (place % 8 * 8)) as u8;
+        (0..count).rev().map(byte).collect()
     }
 
     /// Lower-case hexadecimal figures with no leading zero, behind a minus if the number is below
@@ -167,6 +174,20 @@ impl From<i64> for Big {
     }
 }
 
+/// The top words as signed numbers, then the others from the top down.
+impl Ord for Big {
+    fn cmp(&self, other: &Big) -> Ordering {
+        let top = |number: &Big| number.0[WORDS - 1] as i64;
+        top(self).cmp(&top(other)).then_with(|| self.0.iter().rev().cmp(other.0.iter().rev()))
+    }
+}
+
+impl PartialOrd for Big {
+    fn partial_cmp(&self, other: &Big) -> Option<Ordering> {
+        Some(self.cmp(other))
+    }
+}
+
 /// As on a sheet.
 impl fmt::Debug for Big {
     fn fmt(&self, out: &mut fmt::Formatter) -> fmt::Result {
@@ -186,6 +207,28 @@ mod tests {
         assert_eq!(Big::ZERO.to_hex(), "0");
         assert_eq!(Big::from_bytes(&[255; 66]).to_hex(), "f".repeat(132));
         assert_eq!(Big::from_bytes(&[255; 128]).to_hex(), "f".repeat(256));
+    }
+
+    #[test]
+    fn bytes_come_back_with_zeros_in_front() {
+        let bytes = [0x12, 0x34, 0x56, 0x78, 0x9a, 0xbc, 0xde, 0xf0, 0x0f];
+        assert_eq!(Big::from_bytes(&bytes).to_bytes(9), bytes);
+        assert_eq!(Big::from_bytes(&bytes).to_bytes(66), [&[0; 57][..], &bytes].concat());
+        assert_eq!(Big::ZERO.to_bytes(2), [0, 0]);
+    }
+
+    #[test]
+    fn numbers_in_order() {
+        let top = Big::from_bytes(&[255; 128]);
+        let small = [-65, -1, 0, 1, 64].map(Big::from);
+        let mut numbers = vec![top.plus(1).negated(), top.negated()];
+        numbers.extend(small);
+        numbers.extend([Big::ZERO.plus_at(1, 3), Big::ZERO.plus_at(1, 3).plus(1), top]);
+        for (at, number) in numbers.iter().enumerate() {
+            for (other_at, other) in numbers.iter().enumerate() {
+                assert_eq!(number.cmp(other), at.cmp(&other_at));
+            }
+        }
     }
 
     #[test]

@@ -9,7 +9,7 @@ use crate::limits::Limits;
 use crate::plan::{Plan, MOST_SLOTS};
 use crate::scalars::Scalar;
 use crate::sheet::Sheet;
-use crate::{codes, joint, next_limit, packing, reader};
+use crate::{codes, dearest, joint, next_limit, packing, reader};
 use std::fmt;
 
 /// A call with all that is lent to it, but for what its buffers hold before.
@@ -75,6 +75,11 @@ pub enum Call {
         l: Scalar,
         limit: u32,
     },
+    /// The card's alone.
+    Dearest {
+        bits: u32,
+        room: usize,
+    },
 }
 
 impl Call {
@@ -131,14 +136,18 @@ impl Call {
                 let additions = next_limit::additions(k.value(), l.value());
                 Answer::NextLimit(next_limit::next(&additions, *limit as usize))
             }
+            Call::Dearest { bits, .. } => Answer::Dearest(dearest::of_size(*bits)),
         }
     }
 
     /// The number of the first question missed by a call other than the reader; question 12, of the
     /// digits and bytes of columns, comes after these.
     fn first_question_missed(&self, limits: Limits) -> Option<u32> {
-        // The gateway has no call for the next limit.
-        let limits = if matches!(self, Call::NextLimit { .. }) { Limits::Card } else { limits };
+        // The gateway has no call for the next limit and none for the dearest scalar.
+        let limits = match self {
+            Call::NextLimit { .. } | Call::Dearest { .. } => Limits::Card,
+            _ => limits,
+        };
         let has_length = |scalar: &Scalar| (1..=limits.bytes()).contains(&scalar.bytes.len());
         let questions = match self {
             Call::Row { scalar, m, places, .. } => {
@@ -187,6 +196,10 @@ impl Call {
             Call::NextLimit { k, l, limit } => {
                 vec![(has_length(k) && has_length(l), 1), (*limit <= MOST_SLOTS, 4)]
             }
+            Call::Dearest { bits, room } => {
+                let sizes = 1..=8 * limits.bytes();
+                vec![(sizes.contains(&(*bits as usize)), 15), (*room == limits.bytes(), 3)]
+            }
         };
         questions.into_iter().find(|(met, _)| !met).map(|(_, number)| number)
     }
@@ -204,6 +217,7 @@ impl Call {
             Call::Read { sheet } => vec![sheet],
             Call::Pack { k_digits, l_digits, .. } => vec![k_digits, l_digits],
             Call::Unpack { packed, .. } => vec![packed],
+            Call::Dearest { .. } => Vec::new(),
         }
     }
 
@@ -228,7 +242,8 @@ impl Call {
             Call::PlanJ { room, .. }
             | Call::PlanI { room, .. }
             | Call::Cheapest { room, .. }
-            | Call::Pack { room, .. } => vec![*room],
+            | Call::Pack { room, .. }
+            | Call::Dearest { room, .. } => vec![*room],
             Call::Read { .. } | Call::NextLimit { .. } => Vec::new(),
         }
     }
@@ -271,6 +286,7 @@ impl fmt::Display for Call {
             Call::NextLimit { k, l, limit } => {
                 write!(out, "next-limit {} {} {limit}", words(k), words(l))
             }
+            Call::Dearest { bits, room } => write!(out, "dearest {bits} {room}"),
         }
     }
 }
@@ -335,6 +351,9 @@ pub fn parse(words: &[&str]) -> Option<Call> {
             l: parse_scalar(l, ls)?,
             limit: limit.parse().ok()?,
         },
+        ["dearest", bits, room] => {
+            Call::Dearest { bits: bits.parse().ok()?, room: room.parse().ok()? }
+        }
         _ => return None,
     })
 }
@@ -401,6 +420,7 @@ mod tests {
             Call::Pack { columns: 2, k_digits: vec![0, 255, 2], l_digits: vec![], room: 3 },
             Call::Unpack { columns: usize::MAX, packed: vec![8], k_places: 0, l_places: 5 },
             Call::NextLimit { k: k.with_sign(1), l, limit: u32::MAX },
+            Call::Dearest { bits: u32::MAX, room: 67 },
         ];
         for call in of_rows.into_iter().flatten().chain(others) {
             let printed = call.to_string();

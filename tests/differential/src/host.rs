@@ -58,9 +58,10 @@ extern "C" {
     fn sheets_unpack(_: usize, _: Read, _: usize, _: Write, _: usize, _: Write, _: usize) -> u64;
 }
 
-// The call that the gateway has not.
+// The calls that the gateway has not.
 extern "C" {
     fn sheets_next_limit(_: Read, _: usize, _: u32, _: Read, _: usize, _: u32, _: u32) -> u64;
+    fn sheets_dearest(_: u32, _: Write, _: usize) -> u64;
 }
 
 /// Makes the call of the set with these limits, with these inputs and buffers. The inputs come from
@@ -137,6 +138,10 @@ pub fn make(limits: Limits, call: &Call, inputs: &mut [Lent], buffers: &mut [Len
         (Call::NextLimit { k, l, limit }, [k_bytes, l_bytes], []) => {
             let ((k, kn, ks), (l, ln, ls)) = (signed(k_bytes, k), signed(l_bytes, l));
             unsafe { sheets_next_limit(k, kn, ks, l, ln, ls, *limit) }
+        }
+        (Call::Dearest { bits, .. }, [], [scalar]) => {
+            let (scalar, room) = scalar.raw();
+            unsafe { sheets_dearest(*bits, scalar, room) }
         }
         _ => unreachable!("every call has its own inputs and buffers"),
     }

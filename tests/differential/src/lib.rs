@@ -1,7 +1,7 @@
 //! A second implementation of the double-and-add sheets, written from the scope document alone,
 //! for rows from the top down from source document 000, for packed columns from their definition,
-//! and for the next limit that pays by the cheapest sheet at every limit. The differential test
-//! compares the library with it.
+//! for the next limit that pays by the cheapest sheet at every limit, and for the dearest scalar by
+//! all lists of digits. The differential test compares the library with it.
 
 pub mod answer;
 pub mod big;
@@ -12,6 +12,7 @@ pub mod changed_orders;
 pub mod cheapest;
 pub mod codes;
 pub mod damage;
+pub mod dearest;
 pub mod direction;
 pub mod down;
 pub mod edges;

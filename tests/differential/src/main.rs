@@ -77,6 +77,7 @@ fn compare_everything(judge: &mut Judge, seed: u64) {
             runs::next_limit::run(judge, random);
         println!("  limit that pays: none {none}, next {next}, further {further}; 31: {highest}");
     });
+    section(judge, "dearest scalars", |judge| runs::dearest::run(judge, random));
 }
 
 fn section(judge: &mut Judge, name: &str, run: impl FnOnce(&mut Judge)) {

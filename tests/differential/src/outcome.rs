@@ -70,6 +70,11 @@ impl Outcome {
         (self.number() == 0 && limit != 0).then_some(NextLimit { limit, additions })
     }
 
+    /// The most digits that are not 0, which the call for the dearest scalar returned.
+    pub fn most(&self) -> usize {
+        self.code as u32 as usize
+    }
+
     /// The line that the reader returned.
     pub fn line(&self) -> u32 {
         self.code as u32
@@ -102,6 +107,7 @@ impl Outcome {
                     self.additions()
                 )
             }
+            Call::Dearest { .. } => format!("number {number}, most {}", self.most()),
         }
     }
 
@@ -118,13 +124,13 @@ impl Outcome {
     }
 }
 
-/// Digits and packed columns as numbers, sheets as text.
+/// Digits, packed columns and scalars as numbers, sheets as text.
 fn show(bytes: &[u8], call: &Call) -> String {
     match call {
         Call::Row { .. } | Call::Joint { .. } | Call::JointCodes { .. } | Call::Unpack { .. } => {
             format!("{:?}", bytes.iter().map(|&byte| byte as i8).collect::<Vec<_>>())
         }
-        Call::Pack { .. } => format!("{bytes:?}"),
+        Call::Pack { .. } | Call::Dearest { .. } => format!("{bytes:?}"),
         _ => format!("\"{}\"", bytes.escape_ascii()),
     }
 }

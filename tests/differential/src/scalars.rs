@@ -77,6 +77,14 @@ pub fn random_of_length(random: &mut Random, bytes: usize) -> Scalar {
     signed(random, bytes)
 }
 
+/// A scalar of a random kind below 2^bits in the fewest bytes, with a random sign.
+pub fn random_of_bits(random: &mut Random, bits: usize) -> Scalar {
+    let mask = ones(0, bits);
+    let bytes = bytes_of_length(random, mask.len());
+    let below: Vec<u8> = bytes.iter().zip(mask).map(|(byte, mask)| byte & mask).collect();
+    signed(random, below)
+}
+
 fn random_bytes(random: &mut Random, limits: Limits) -> Vec<u8> {
     let bytes = match random.below(4) {
         0 => random.between(1, 4),
@@ -275,6 +283,19 @@ mod tests {
         for limits in Limits::BOTH {
             let mut lengths = (0..2000).map(|_| random(&mut generator, limits).bytes.len());
             assert!(lengths.all(|bytes| (1..=limits.bytes()).contains(&bytes)));
+        }
+    }
+
+    #[test]
+    fn scalars_of_so_many_bits_have_no_more_and_some_have_all() {
+        let mut generator = Random::new(9);
+        for bits in 0..=528 {
+            let scalars = (0..100).map(|_| random_of_bits(&mut generator, bits));
+            let lengths = scalars.map(|scalar| {
+                assert_eq!(scalar.bytes.len(), bits.div_ceil(8).max(1));
+                scalar.value().bit_length()
+            });
+            assert_eq!(lengths.max(), Some(bits));
         }
     }
 

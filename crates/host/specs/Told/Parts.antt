@@ -45,6 +45,12 @@ use Rattle.chooser.specs.Next.{fewest, Next, pays, none, nextLimit, nextAnswer}
 use Rattle.chooser.specs.Next.First.{next-meets}
 use Rattle.chooser.specs.declared.next.NextLimit.{NextLimit}
 use Rattle.chooser.specs.declared.next.NextLimit.the-variants as nexts
+use Rattle.dearest.specs.Call.{mostTold, isSize, isRoom, dearestAnswer}
+use Rattle.dearest.specs.Call.Returned.{size-is}
+use Rattle.dearest.specs.Dearest.{most}
+use Rattle.dearest.specs.Promise.{most-closed}
+use Rattle.dearest.specs.declared.answer.Dearest.{Dearest}
+use Rattle.dearest.specs.declared.answer.Dearest.the-variants as dearest
 use Rattle.host.specs.Told.{RecodedFits, SheetFits, NextFits}
 
 -- limits under which all that is told fits
@@ -166,3 +172,12 @@ next-larger limits k k-sign l l-sign limit = go (sized limits k && sized limits 
     go true true (none q) = tt
     go true false h = tt
     go false b h = tt
+
+-- the dearest scalar has few digits
+pub dearest-fits : (size room : ℕ) → mostTold (dearestAnswer size room) < 2 ^ 32
+unfolding dearestAnswer
+dearest-fits size room =
+    let answer : Dearest = dearest.Found (most size) in
+    let few : Dearest → Type 0 = λ d. mostTold d < 2 ^ 32 in
+    either-way few (isSize size) (cond (isRoom room) answer dearest.BadRoom) dearest.BadSize
+    (λ e. either-way few (isRoom room) answer dearest.BadRoom (λ _. let h = size-is size e in omega (arith, h, most-closed size (h .0))) (omega arith)) (omega arith)

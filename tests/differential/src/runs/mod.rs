@@ -3,6 +3,7 @@
 pub mod both;
 pub mod changed_orders;
 pub mod cheapest;
+pub mod dearest;
 pub mod joint_forms;
 pub mod licences;
 pub mod next_limit;
