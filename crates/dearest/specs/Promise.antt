@@ -13,11 +13,12 @@ use Rattle.digits.specs.Scalar.{scalar}
 use Rattle.digits.specs.declared.limits.Limits.{Limits}
 use Rattle.forms.specs.Row.{row}
 use Rattle.sheet.specs.declared.Plan.the-variants.{I}
-use Rattle.written.specs.Written.{additionsOf}
+use Rattle.written.specs.Written.{digits, additionsOf, writtenAdditions}
 use Rattle.writer.specs.Call.{additions, iAnswer, iDownAnswer}
 use Rattle.writer.specs.Promise.{i-down-additions}
 use Rattle.writer.specs.Rows.{columnsBy}
 use Rattle.writer.specs.declared.rows.Rows.{Rows}
+use Rattle.writer.specs.declared.rows.Rows.the-variants.{Up}
 use Rattle.dearest.specs.Call.{number, dearestAnswer, dearestBuffer, Fills}
 use Rattle.dearest.specs.Call.Ordered as Ordered
 use Rattle.dearest.specs.Call.Returned as Returned
@@ -69,6 +70,12 @@ dearest-refused = Returned.refused
 pub dearest-order : (rows : Rows) (size : ℕ) (k l : ℤ) → natAbs k < 2 ^ size → natAbs l < 2 ^ size
     → additionsOf (I 1 1) (columnsBy rows 1 1 k l) k l ≤ additionsOf (I 1 1) (columnsBy rows 1 1 (pos (dearest size)) (pos (dearest size))) (pos (dearest size)) (pos (dearest size))
 dearest-order = Order.order-most
+
+-- of 01's rows, whose sheet a named plan and a cheapest one are:
+pub dearest-written : (size : ℕ) (k l : ℤ) → natAbs k < 2 ^ size → natAbs l < 2 ^ size
+    → writtenAdditions (I 1 1) k l ≤ writtenAdditions (I 1 1) (pos (dearest size)) (pos (dearest size))
+unfolding digits
+dearest-written = dearest-order Up
 
 -- so with the bytes that the call leaves, and the number w that it answers:
 module _ (size w : ℕ) (s : List ℕ) (fills : Fills size w s) where

@@ -44,7 +44,7 @@ light-below (suc n) x w h l = lighter w (λ c v g. light-below n c v (omega arit
 light : (x w : ℕ) → 3 * x ≤ 2 * 4 ^ w → nafWeight x ≤ w
 light x w l = light-below (suc x) x w (omega arith) l
 
--- it is one more than w pairs of bits 10, and has w + 1
+-- (2 × 4^w + 1)/3 is one more than w pairs of bits 10, and has w + 1
 pairs-closed : (w : ℕ) → 3 * suc (pairs w) ≡ 2 * 4 ^ w + 1
 unfolding pairs
 pairs-closed zero = refl
@@ -64,7 +64,7 @@ two-four (suc (suc n)) =
     let half : suc (suc n) / 2 ≡ suc (n / 2) = omega arith in
     rw (half, pow-suc 2 (suc n), pow-suc 2 n, pow-suc 4 (n / 2)) (⊎-map (λ e. omega arith) (λ e. omega arith) (two-four n))
 
--- so with n bits it is the dearest for half of n
+-- so with so many bits, w being half of them, it is the dearest
 pairs-dearest : (bits : ℕ) → 1 ≤ bits → Heaviest bits (suc (pairs (bits / 2))) (suc (bits / 2))
 pairs-dearest bits h = go (two-four bits)
   where
