@@ -1,6 +1,6 @@
 -- What was written from place 0 on stands at the places below its length: a row over a window's digits, and columns of −1, 0, 1.
 -- From the law that a digit's byte is read back as the digit.
-use Rattle.std.specs.Prelude.{◌≡◌, refl, List, [], ◌∷◌, ◌++◌, map, ℕ, ◌≤◌, ◌<◌, ℤ, pos, nat_abs, length}
+use Rattle.std.specs.Prelude.{◌≡◌, refl, List, [], ◌∷◌, ◌++◌, map, ℕ, ◌<◌, ℤ, pos, nat_abs, length}
 use Rattle.std.proofs.Common.{sym, ap, ap₂, ◌∙◌, arith, take_at}
 use Rattle.std.proofs.lemmas.List.{length-map}
 use Rattle.digits.specs.Byte.{byte_of, signed}
