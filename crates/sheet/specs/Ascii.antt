@@ -1,7 +1,6 @@
 -- The bytes of a text in ASCII.
 use Rattle.std.specs.Prelude.{List, [], ◌∷◌, ℕ}
 use Prim.Native.Char.{code}
-use Prim.Native.String as String
 use Prim.Native.String.{String}
 
 -- the bytes of a text, each character's number

@@ -4,7 +4,7 @@ use Rattle.std.proofs.Common.{sym, ◌∙◌, lt_of_lt_of_le, mul-le-mul_right, 
 use Rattle.std.proofs.Math.Path.{ap, subst}
 use Rattle.std.proofs.Math.Bool.{not}
 use mathlib.Core.List.{List, [], ◌∷◌}
-use Rattle.std.proofs.Math.Option.{Option, none, some}
+use Rattle.std.proofs.Math.Option.{none, some}
 use Prim.Native.Nat.{ℕ, suc, ◌+◌, ◌*◌, ◌^◌, ◌≤◌, ◌<◌}
 use Rattle.std.proofs.Math.Nat.{mul_assoc, mul-one, suc-mul, pow-succ', pow-zero, pow-le-pow_right}
 use Rattle.std.proofs.Math.Dec.{leb}

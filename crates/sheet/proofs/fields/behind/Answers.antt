@@ -7,8 +7,6 @@ use lib.ListN.{drop, length-drop}
 use Rattle.sheet.specs.Spelling.{comma}
 use Rattle.sheet.specs.Spelling.Field.{First}
 use Rattle.sheet.proofs.CutTurns.{behind_found, behind_none, to_end}
-use Rattle.sheet.proofs.fields.behind.Reads as reads
-use Rattle.sheet.proofs.fields.find.Reads as find_reads
 use Rattle.sheet.proofs.fields.behind.Goals.{After-find-n}
 use Rattle.sheet.proofs.fields.behind.Goals as goal
 

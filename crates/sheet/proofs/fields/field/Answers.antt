@@ -7,9 +7,6 @@ use lib.ListN.{get_or, drop, take}
 use Rattle.sheet.specs.Spelling.{comma, cut}
 use Rattle.sheet.specs.Spelling.Field.{First}
 use Rattle.sheet.proofs.CutTurns.{first_zero, to_end}
-use Rattle.sheet.proofs.fields.field.Reads as reads
-use Rattle.sheet.proofs.fields.behind.Reads as behind_reads
-use Rattle.sheet.proofs.fields.find.Reads as find_reads
 use Rattle.sheet.proofs.fields.field.Goals.{After-find-n}
 use Rattle.sheet.proofs.fields.field.Goals as goal
 

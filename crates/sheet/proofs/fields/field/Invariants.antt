@@ -1,12 +1,9 @@
 -- `field` meets its contract. The loop's invariant: the fields from `at` on, without the first `left`, are those from k on.
 use mathlib.Core.Path.{◌≡◌}
 use mathlib.Core.List.{[]}
-use Prim.Native.Nat.{◌≤◌, ◌-◌}
+use Prim.Native.Nat.{◌≤◌}
 use lib.ListN.{length, get_or, drop}
 use Rattle.sheet.specs.Spelling.{comma, cut}
-use Rattle.sheet.proofs.fields.field.Reads as reads
-use Rattle.sheet.proofs.fields.behind.Reads as behind_reads
-use Rattle.sheet.proofs.fields.find.Reads as find_reads
 use Rattle.sheet.proofs.fields.field.Given as goal
 
 abbrev pub invariant-loop-left : goal.invariant-loop-left

@@ -1,6 +1,5 @@
 -- `find` meets its contract. The loop's invariant: the bytes below i are others.
 use native.Mathlib.Omega.{arith}
-use Prim.Native.Nat.{◌-◌}
 use Rattle.sheet.specs.Every.{empty}
 use Rattle.sheet.proofs.CutTurns.{lacks_turn}
 use Rattle.sheet.proofs.fields.find.Goals as goal

@@ -1,11 +1,8 @@
 -- `are_figures` meets its contract. The loop's invariant: the bytes from i on are figures exactly if all are.
 use native.Mathlib.Omega.{arith}
 use mathlib.Core.Path.{subst, ◌∙◌}
-use Prim.Native.Nat.{ℕ, ◌≤◌, ◌<◌, ◌-◌}
-use Rattle.sheet.specs.Numeral.{figures}
+use Prim.Native.Nat.{ℕ, ◌≤◌, ◌<◌}
 use Rattle.sheet.proofs.FieldTurns.{figures_turn, figures_stop, figures_end}
-use Rattle.sheet.proofs.figures.are_figures.Reads as reads
-use Rattle.sheet.proofs.figures.worth_of.Reads as worth_of_reads
 use Rattle.sheet.proofs.figures.are_figures.Goals as goal
 
 pub returns-then-base-figure : goal.returns-then-base-figure

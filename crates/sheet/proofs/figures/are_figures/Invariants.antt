@@ -3,8 +3,6 @@ use mathlib.Core.Path.{◌≡◌}
 use Prim.Native.Nat.{◌≤◌, ◌-◌}
 use lib.ListN.{length, drop}
 use Rattle.sheet.specs.Numeral.{figures}
-use Rattle.sheet.proofs.figures.are_figures.Reads as reads
-use Rattle.sheet.proofs.figures.worth_of.Reads as worth_of_reads
 use Rattle.sheet.proofs.figures.are_figures.Given as goal
 
 abbrev pub invariant-loop-i : goal.invariant-loop-i

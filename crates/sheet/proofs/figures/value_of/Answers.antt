@@ -1,13 +1,11 @@
 -- `value_of` meets its contract. The loop's invariant: the number so far, with the figures from i on behind it, is the whole number.
 use native.Mathlib.Omega.{arith}
 use mathlib.Core.Path.{ap, ◌∙◌}
-use Prim.Native.Nat.{ℕ, ◌+◌, ◌*◌, ◌≤◌, ◌<◌, ◌-◌}
+use Prim.Native.Nat.{ℕ, ◌+◌, ◌*◌, ◌≤◌, ◌<◌}
 use native.Mathlib.Nat.{pow-le-pow_right}
 use lib.ListN.{length, drop}
-use Rattle.sheet.specs.Numeral.{figures, followed}
+use Rattle.sheet.specs.Numeral.{followed}
 use Rattle.sheet.proofs.FieldTurns.{figure_at, followed_turn, followed_end, power_turn}
-use Rattle.sheet.proofs.figures.value_of.Reads as reads
-use Rattle.sheet.proofs.figures.worth_of.Reads as worth_of_reads
 use Rattle.sheet.proofs.figures.value_of.Goals.{After-worth_of-figure}
 use Rattle.sheet.proofs.figures.value_of.Goals as goal
 

@@ -4,8 +4,6 @@ use mathlib.Core.Bool.{true}
 use Prim.Native.Nat.{◌≤◌, ◌<◌, ◌-◌, ◌^◌}
 use lib.ListN.{length, drop}
 use Rattle.sheet.specs.Numeral.{figures, followed}
-use Rattle.sheet.proofs.figures.value_of.Reads as reads
-use Rattle.sheet.proofs.figures.worth_of.Reads as worth_of_reads
 use Rattle.sheet.proofs.figures.value_of.Given as goal
 
 abbrev pub invariant-loop-i : goal.invariant-loop-i
