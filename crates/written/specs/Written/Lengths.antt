@@ -9,7 +9,6 @@ use Rattle.std.proofs.lemmas.List.{length-map}
 use Rattle.digits.specs.declared.limits.Limits.{Limits}
 use Rattle.sheet.specs.declared.Plan.{Plan}
 use Rattle.sheet.specs.Every.{Every, every_append}
-use Rattle.sheet.specs.Every as Every
 use Rattle.sheet.specs.Line.{Kind, joint, interleaved, Header, Line, header, table, load, double, add, end}
 use Rattle.sheet.specs.Numeral.{numeral, figures, padded, followed, number}
 use Rattle.sheet.specs.Numeral.Read.{number_numeral}

@@ -10,7 +10,7 @@ use Rattle.std.proofs.Math.ListN.{length, get_or, length-reverse_aux}
 use Rattle.std.proofs.lemmas.List.{length-reverse}
 use Rattle.std.proofs.Math.Seq.{get_or_at}
 use Rattle.digits.specs.Integer.Parts.{integers, sum}
-use Rattle.digits.specs.Row.{Digit, none, odd, empty, more}
+use Rattle.digits.specs.Row.{Digit, none, odd, more}
 use Rattle.digits.specs.Column.{row, Small}
 use Rattle.digits.specs.Two.{Column, P, Q, is_zero, blank, blank_column}
 use Rattle.forms.specs.Joint.{Topped}
@@ -18,8 +18,7 @@ use Rattle.sheet.specs.declared.Plan.{Plan}
 use Rattle.sheet.specs.declared.Plan.TheVariants.{J, I}
 use Rattle.sheet.specs.Digits.{columns_from, Fits}
 use Rattle.sheet.specs.Every.{Every}
-use Rattle.sheet.specs.Every as Every
-use Rattle.sheet.specs.Line.{Line, load, end}
+use Rattle.sheet.specs.Line.{Line, end}
 use Rattle.sheet.specs.Plan.{Point, point}
 use Rattle.sheet.specs.Questions.{additions, doublings, plus}
 use Rattle.sheet.specs.Sound.{Moves, Steps, loaded, move_lines, step_lines, move_doubles, step_doubles, Turn, for_both, for_p, for_q, AllowedMoves, stops, doubles, adds, Allowed, rests, loads}
