@@ -13,7 +13,7 @@ use Rattle.digits.specs.declared.limits.Limits.{Limits}
 use Rattle.sheet.specs.Line.{Header, Line, plan}
 use Rattle.sheet.specs.Spelling.{lines}
 use Rattle.sheet.specs.Answer.{refused, ask, heading, judged, answer}
-use Rattle.sheet.specs.Questions.{too_long, misplaced, off_plan, disallowed, excess, additions, doublings, miscounted}
+use Rattle.sheet.specs.Questions.{too_long, misplaced, off_plan, disallowed, additions, doublings, miscounted}
 use Rattle.lines.specs.declared.header.Header as header_of
 use Rattle.survey.specs.Survey.State.{found, claimed_by}
 use Rattle.survey.specs.Survey.Total.{total}

@@ -6,7 +6,7 @@ use Rattle.sheet.specs.declared.Plan.{Plan}
 use Rattle.sheet.specs.Plan.{Point, slots, tables, table_doublings}
 use Rattle.sheet.specs.Line as spec
 use Rattle.sheet.specs.Line.{plan_of, header, table, load, double, add}
-use Rattle.sheet.specs.Questions.{windowed, same_point, table_lines, differs, turn, disallowed_from, excess_from, additions, doublings, after_header, after_load, after_end, misplaced, off_plan, disallowed, excess}
+use Rattle.sheet.specs.Questions.{windowed, same_point, table_lines, differs, disallowed_from, excess_from, additions, doublings, after_header, after_load, after_end, misplaced, off_plan, disallowed, excess}
 use Rattle.lines.specs.Coded.{kind_of, coded_point, coded_header}
 use Rattle.survey.specs.Survey.Total.{places_after}
 use Rattle.survey.specs.declared.fault.Fault.{Fault}

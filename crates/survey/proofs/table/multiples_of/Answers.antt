@@ -1,0 +1,7 @@
+-- `multiples_of` meets its contract, by whether the window is 3 or more.
+use native.Mathlib.Omega.{arith}
+use Rattle.survey.proofs.TableRead.{multiples_some}
+use Rattle.survey.proofs.table.multiples_of.Goals as goal
+
+pub returns : goal.returns
+returns c = (multiples_some c.args.m c.if-m-lt3.false, omega arith)
