@@ -1,0 +1,12 @@
+-- `write_digits` meets its contract. The loop's invariant: what stands in the buffer, followed by the row of the remainder,
+-- is the whole row (RowTurns). The measure is the number of places left.
+use Prim.Native.Nat.{◌-◌}
+use lib.ListN.{length}
+use Rattle.recode.proofs.RowLoop.{State}
+use Rattle.recode.proofs.rows.write_digits.Given as goal
+
+abbrev pub invariant-loop-full : goal.invariant-loop-full
+invariant-loop-full l = State l.bytes l.m l.initial.out l.out l.low l.place l.weight
+
+abbrev pub decreases-loop-full : goal.decreases-loop-full
+decreases-loop-full l = length l.out - l.place
