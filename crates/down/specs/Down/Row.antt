@@ -8,7 +8,7 @@ use Rattle.std.proofs.Math.Nat.{div-eq_of_lt, mul-zero, mul-lt-mul_of_pos_left}
 use Rattle.std.proofs.Math.Pow.{pow-add}
 use Rattle.std.proofs.Math.IntN.{neg_ℤ}
 use Rattle.std.proofs.Math.ListN.{length-map}
-use Rattle.digits.specs.Integer.{down, signed_by}
+use Rattle.digits.specs.Integer.{signed_by}
 use Rattle.digits.specs.Integer.Parts.{integers, negation}
 use Rattle.digits.specs.Integer.Sign.{negated_size, signed_sum, signed_zero}
 use Rattle.digits.specs.Row.{value, weight, none, odd, Over, empty, more}
