@@ -23,7 +23,6 @@ use Rattle.digits.specs.Two.{Column, P, Q, two, paired}
 use Rattle.digits.specs.Two.Paired.{paired_length}
 use Rattle.forms.specs.Joint.{joint}
 use Rattle.forms.specs.Joint.Value.{joint_small}
-use Rattle.forms.specs.Row as Row
 use Rattle.recode.specs.Call.{roomy, places_written, weight_written, wrote_row, wrote_columns, filled, left, answer_with, buffer_with, joint_answer, joint_buffer}
 use Rattle.recode.specs.Call.Lent.{filled_long}
 use Rattle.recode.specs.declared.answer.Recoded.{Recoded}
