@@ -1,0 +1,6 @@
+-- `refuse` meets its contract: the four bytes of the line.
+use Rattle.order.proofs.Printed.{refused}
+use Rattle.order.proofs.call.refuse.Goals as goal
+
+pub returns : goal.returns
+returns c = refused c.args.number c.args.out.now c.requires.0 c.requires.1
