@@ -8,7 +8,7 @@ use borrow.Author.Tests.{lt-leb}
 use lib.ListN.{length, get_or, drop_of_length-le}
 use lib.Seq.{drop-cons}
 use Rattle.sheet.specs.declared.Plan.TheVariants.{J, I}
-use Rattle.sheet.specs.Plan.Slots.{wide_slots}
+use Rattle.sheet.proofs.Laws.Plan.Slots.{wide_slots}
 use Rattle.sheet.specs.Plan.{slots, is_within}
 use Rattle.chooser.specs.Body.Choice.{Enough}
 use Rattle.chooser.specs.Cheapest.{plans, within}

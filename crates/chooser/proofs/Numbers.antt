@@ -9,7 +9,7 @@ use lib.Dec.{eqb}
 use lib.ListN.{length, get_or}
 use Rattle.sheet.specs.declared.Plan.{Plan}
 use Rattle.sheet.specs.declared.Plan.TheVariants.{J, I}
-use Rattle.sheet.specs.Plan.Slots.{slots_most}
+use Rattle.sheet.proofs.Laws.Plan.Slots.{slots_most}
 use Rattle.sheet.specs.Plan.{odds, slots}
 use Rattle.chooser.specs.Cheapest.{plans, interleaved}
 use Rattle.chooser.specs.Numbers.{from, from_at}

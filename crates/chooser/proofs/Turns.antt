@@ -15,10 +15,10 @@ use Rattle.forms.specs.Row.{row}
 use Rattle.sheet.specs.declared.Plan.{Plan}
 use Rattle.sheet.specs.declared.Plan.TheVariants.{J, I}
 use Rattle.sheet.specs.Digits.{weight}
-use Rattle.sheet.specs.Plan.Slots.{window_slots}
+use Rattle.sheet.proofs.Laws.Plan.Slots.{window_slots}
 use Rattle.sheet.specs.Plan.{slots, is_within, table_additions, table_doublings}
 use Rattle.sheet.specs.Sound.{Window}
-use Rattle.written.specs.Promise.{written_cost, written_doublings_lem}
+use Rattle.written.proofs.Laws.Promise.{written_cost, written_doublings_lem}
 use Rattle.written.specs.Valid.{Valid, for_j, for_i}
 use Rattle.written.specs.Written.Columns.{paired_weight}
 use Rattle.written.specs.Written.{digits, written_additions}

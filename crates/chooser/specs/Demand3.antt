@@ -12,7 +12,7 @@ use Rattle.digits.specs.Row.{value}
 use Rattle.digits.specs.Scalar.{signed_scalar}
 use Rattle.digits.specs.Two.{Column, P, Q, two}
 use Rattle.forms.specs.Joint.{Keeps, Topped}
-use Rattle.forms.specs.Promise as Forms
+use Rattle.forms.proofs.Laws.Promise as Forms
 use Rattle.recode.specs.Call.{filled, row_answer, row_buffer, RowOf, joint_answer, joint_buffer, JointOf}
 use Rattle.recode.specs.declared.answer.Recoded.TheVariants.{Written}
 use Rattle.recode.specs.Promise as Recoding

@@ -14,17 +14,18 @@ use lib.Seq.{append_snoc, set_at, ext_get_or}
 use Rattle.digits.specs.Buffer.Zeros.{padded_at}
 use Rattle.digits.specs.Byte.{byte_of}
 use Rattle.digits.specs.Scalar.{Bytes, signed_scalar, bit_length}
-use Rattle.digits.specs.Scalar.Signed.{scalar_size}
+use Rattle.digits.proofs.Laws.Scalar.Signed.{scalar_size}
 use Rattle.digits.specs.Scalar.Value.{length_bytes}
 use Rattle.digits.specs.Column.Length.{row_length}
 use Rattle.digits.specs.Two.{Two, other, two}
 use Rattle.forms.specs.Codes.{digits, remainder_at, code_at, below, codes}
-use Rattle.forms.specs.Codes.Listed.{below_length, below_at, code_at_lem, codes_length}
-use Rattle.forms.specs.Codes.Next.{by_next, codes_next}
-use Rattle.forms.specs.Codes.Place.{digit_at}
+use Rattle.forms.proofs.Laws.Codes.Listed.{below_length, below_at, code_at_lem, codes_length}
+use Rattle.forms.specs.Codes.Next.{by_next}
+use Rattle.forms.proofs.Laws.Codes.Next.{codes_next}
+use Rattle.forms.proofs.Laws.Codes.Place.{digit_at}
 use Rattle.forms.specs.Joint.{joint}
-use Rattle.forms.specs.Joint.Digit.{digit_fits}
-use Rattle.forms.specs.Joint.Length.{joint_length}
+use Rattle.forms.proofs.Laws.Joint.Digit.{digit_fits}
+use Rattle.forms.proofs.Laws.Joint.Length.{joint_length}
 use Rattle.forms.specs.Test.{equal, every_digit}
 use Rattle.codes.specs.Body.{byte_code, byte_codes}
 use Rattle.recode.specs.Call.{filled}

@@ -1,3 +1,4 @@
 -- Laws that the functions' proofs cite.
 pub mod Asked
 pub mod Negative
+pub mod Laws

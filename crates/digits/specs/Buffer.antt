@@ -1,5 +1,4 @@
 -- The digits that stand in buffers, a byte each, at the places below a length.
-pub mod Read
 pub mod Zeros
 pub mod Mapped
 use Rattle.std.specs.Prelude.{List, map, ℕ, ℤ, take}

@@ -1,5 +1,4 @@
 -- The byte of a digit, in two's complement, and the digit of a byte.
-pub mod Signed
 use Rattle.std.specs.Prelude.{cond, ℕ, ◌-◌, ◌%◌, ltb, ℤ, pos, negsuc}
 use Rattle.digits.specs.Integer.{rem}
 

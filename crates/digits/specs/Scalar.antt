@@ -2,7 +2,6 @@
 pub mod Length
 pub mod Value
 pub mod Sized
-pub mod Signed
 pub mod Zeros
 use Rattle.std.specs.Prelude.{◌≡◌, Bool, ◌&&◌, List, [], ◌∷◌, reverse, ℕ, zero, suc, ◌+◌, ◌*◌, ◌/◌, ◌≤◌, ◌<◌, ltb, leb, ℤ, pos, length, get_or}
 use Rattle.digits.specs.Integer.{signed_by}

@@ -11,7 +11,7 @@ use lib.Pow.{pow_mono}
 use lib.Seq.{take_all}
 use Rattle.digits.specs.Buffer.Zeros.{padded_at}
 use Rattle.digits.specs.Byte.{byte_of, signed}
-use Rattle.digits.specs.Byte.Signed.{signed_byte}
+use Rattle.digits.proofs.Laws.Byte.Signed.{signed_byte}
 use Rattle.digits.specs.Row.{none, odd, Over, empty, more}
 use Rattle.digits.specs.Scalar.{Bytes, scalar, bit_length, BitsOf}
 use Rattle.digits.specs.Scalar.Length.{below_length}

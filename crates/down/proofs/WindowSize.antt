@@ -12,7 +12,7 @@ use lib.IntN.{ℤ, pos, neg_ℤ}
 use lib.Pow.{pow_pos, pow-add, pow_mono}
 use borrow.Author.Tests.{eq-eqb, ne_eqb, le-ltb, lt-ltb}
 use Rattle.digits.specs.Byte.{byte_of}
-use Rattle.digits.specs.Byte.Signed.{byte_negated}
+use Rattle.digits.proofs.Laws.Byte.Signed.{byte_negated}
 use Rattle.digits.specs.Integer.{signed_by}
 use Rattle.digits.specs.Integer.Congruent.{power_step}
 use Rattle.digits.specs.Integer.Parts.{integers, negation}

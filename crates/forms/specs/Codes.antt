@@ -2,10 +2,7 @@
 -- the digit follows from it.
 pub mod Remainder
 pub mod Rule
-pub mod Place
 pub mod Next
-pub mod Listed
-pub mod Negated
 use Rattle.std.specs.Prelude.{◌≡◌, ◌↔◌, ◌⊎◌, cond, List, [], ◌∷◌, ℕ, zero, suc, ◌%◌, ◌^◌, eqb, ℤ, pos, ◌+ℤ◌, ◌-ℤ◌, ◌*ℤ◌, neg_ℤ, nat_abs, length, take}
 use Rattle.digits.specs.Column as Columns
 use Rattle.digits.specs.Integer.{rem, quo}

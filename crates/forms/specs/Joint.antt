@@ -1,14 +1,7 @@
 -- The joint sparse form of two numbers: Solinas's rules, as 01 words them, and the function that finds the columns.
 pub mod Digit
 pub mod Rule
-pub mod Value
 pub mod Triple
-pub mod Sparse
-pub mod Unique
-pub mod Fewest
-pub mod Negated
-pub mod Length
-pub mod Zeros
 use Rattle.std.specs.Prelude.{◌≡◌, ◌≢◌, ◌⊎◌, Bool, true, false, not, ◌&&◌, ◌||◌, cond, List, [], ◌∷◌, ℕ, zero, suc, ◌+◌, ◌%◌, ◌≤◌, T, eqb, length, get_or, ℤ, pos, negsuc, ◌-ℤ◌, ◌*ℤ◌, neg_ℤ, nat_abs}
 use Rattle.digits.specs.Integer.{rem, half}
 use Rattle.digits.specs.Two as Two

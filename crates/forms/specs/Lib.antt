@@ -4,4 +4,3 @@ pub mod Joint
 pub mod Codes
 pub mod Test
 pub mod NonAdjacent
-pub mod Promise

@@ -1,6 +1,5 @@
 -- The width-w form of a number, as source document 003 words it (definition 4.2, with the odd digits that it forgets), and the
 -- non-adjacent form, which is its case w = 2 (remark 3).
-pub mod Row
 use Rattle.std.specs.Prelude.{◌≡◌, ◌≢◌, ◌⊎◌, List, ℕ, suc, ◌+◌, ◌-◌, ◌%◌, ◌^◌, ◌≤◌, ◌<◌, length, get_or, ℤ, pos, nat_abs}
 use Rattle.digits.specs.Row.{value}
 

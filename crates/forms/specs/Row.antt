@@ -1,13 +1,6 @@
 -- The row of a scalar for a window, as 01 words it: the digit of a remainder, what it leaves, and the row of all digits.
 -- The rule stands beside the function as a `data`.
-pub mod Digit
 pub mod OddDigit
-pub mod Only
-pub mod Value
-pub mod Natural
-pub mod Negated
-pub mod Length
-pub mod Fewest
 use Rattle.std.specs.Prelude.{◌≡◌, ◌≢◌, cond, List, [], ◌∷◌, ℕ, zero, suc, ◌-◌, ◌%◌, ◌≤◌, ◌<◌, eqb, leb, ℤ, pos, negsuc, ◌+ℤ◌, ◌-ℤ◌, nat_abs}
 use Rattle.digits.specs.Integer.{half}
 use Rattle.forms.specs.Residue.{Residue, residue, width}

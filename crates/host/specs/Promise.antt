@@ -8,14 +8,14 @@ use Rattle.digits.specs.Column.{row}
 use Rattle.digits.specs.Scalar.{Bytes, signed_scalar}
 use Rattle.digits.specs.Two.{Two, P, Q, of, two}
 use Rattle.forms.specs.Joint.{joint}
-use Rattle.forms.specs.Joint.Value.{joint_small}
+use Rattle.forms.proofs.Laws.Joint.Value.{joint_small}
 use Rattle.digits.specs.declared.limits.Limits.{Limits}
 use Rattle.dearest.specs.Call as Dear
 use Rattle.dearest.specs.Call.{dearest_answer}
 use Rattle.dearest.specs.declared.answer.Dearest.{Dearest}
 use Rattle.packing.specs.Call as Packs
 use Rattle.packing.specs.Call.{pack_answer}
-use Rattle.packing.specs.Promise.{rows_pack}
+use Rattle.packing.proofs.Laws.Promise.{rows_pack}
 use Rattle.packing.specs.declared.answer.Packing.{Packing}
 use Rattle.packing.specs.declared.answer.Packing.TheVariants.{NoRoom, BadColumn, Done}
 use Rattle.recode.specs.Call as Recoding

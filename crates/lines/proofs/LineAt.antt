@@ -13,7 +13,7 @@ use Rattle.sheet.specs.Line as spec
 use Rattle.sheet.specs.Line.{double, misspelled}
 use Rattle.sheet.specs.Spelling.{line_feed, cut, read_behind, read_line, lines}
 use Rattle.sheet.specs.Spelling.Cut.{Lacks, lines_none, lines_more, lines_last}
-use Rattle.sheet.specs.Spelling.Spelled.{spelled_line}
+use Rattle.sheet.proofs.Laws.Spelling.Spelled.{spelled_line}
 use Rattle.sheet.specs.Every.{empty}
 use Rattle.sheet.specs.Spelling.Field.{First}
 use Rattle.sheet.proofs.CutTurns.{first_all, lacks_turn}

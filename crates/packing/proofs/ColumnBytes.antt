@@ -7,7 +7,7 @@ use lib.Dec.{leb, ltb}
 use lib.IntN.{ℤ, pos, ◌+ℤ◌, ◌-ℤ◌, nat_abs}
 use borrow.Author.Tests.{ltb-true, ltb-false, le-ltb, le-leb, lt-leb}
 use Rattle.digits.specs.Byte.{byte_of, signed}
-use Rattle.digits.specs.Byte.Signed.{signed_plain, signed_minus}
+use Rattle.digits.proofs.Laws.Byte.Signed.{signed_plain, signed_minus}
 use Rattle.digits.specs.Integer.{up}
 use Rattle.digits.specs.Integer.Parts.{up_subℕ}
 

@@ -1,2 +1,3 @@
 pub mod ColumnBytes
 pub mod Laid
+pub mod Laws

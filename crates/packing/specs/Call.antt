@@ -1,8 +1,6 @@
 -- What packing and unpacking answer and leave in the buffers that they are lent, for all input; and what they promise of the columns and
 -- the bytes that stand there.
 pub mod Standing
-pub mod Returned
-pub mod Undone
 use Rattle.std.specs.Prelude.{◌≡◌, Bool, true, ◌&&◌, cond, List, [], ◌∷◌, ◌++◌, map, ℕ, ◌≤◌, leb, length, take, drop}
 use Rattle.digits.specs.Buffer.{columns_below}
 use Rattle.digits.specs.Column.{Small}

@@ -1,6 +1,5 @@
 -- A column of two digits −1, 0, 1 as one byte, and the column of a byte; and which bytes store such digits, and which such columns.
 pub mod All
-pub mod Back
 pub mod Places
 use Rattle.std.specs.Prelude.{Bool, true, ◌&&◌, List, [], ◌∷◌, map, ℕ, ◌+◌, ◌*◌, ◌/◌, ◌%◌, leb, pos, ◌+ℤ◌, ◌-ℤ◌, nat_abs, take}
 use Rattle.digits.specs.Buffer.{columns_below}

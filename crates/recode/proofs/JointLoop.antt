@@ -14,7 +14,7 @@ use Rattle.digits.specs.Integer.{half}
 use Rattle.digits.specs.Scalar.{little}
 use Rattle.digits.specs.Two.{Two, P, Q, of, two}
 use Rattle.forms.specs.Joint.{joint, digit, rest}
-use Rattle.forms.specs.Joint.Digit.{digit_mod, digit_fits, joint_rest_pos}
+use Rattle.forms.proofs.Laws.Joint.Digit.{digit_mod, digit_fits, joint_rest_pos}
 use Rattle.recode.specs.declared.low.Low.{Low}
 use Rattle.recode.specs.declared.answer.Recoded.TheVariants.{Written}
 use Rattle.recode.specs.Call.{wrote_columns, filled}

@@ -15,10 +15,11 @@ use Rattle.digits.specs.Integer.{up}
 use Rattle.digits.specs.Two as Two
 use Rattle.digits.specs.Two.{Two, P, Q, of, two, blank_column}
 use Rattle.forms.specs.Joint.{joint, column, digit, rest}
-use Rattle.forms.specs.Joint.Digit.{digit_fits}
-use Rattle.forms.specs.Joint.Rule.{BothZero, joint_unfold, joint_zero}
-use Rattle.forms.specs.Joint.Value.{column_digit}
-use Rattle.forms.specs.Joint.Zeros.{joint_zeros}
+use Rattle.forms.proofs.Laws.Joint.Digit.{digit_fits}
+use Rattle.forms.specs.Joint.Rule.{BothZero}
+use Rattle.forms.proofs.Laws.Joint.Rule.{joint_unfold, joint_zero}
+use Rattle.forms.proofs.Laws.Joint.Value.{column_digit}
+use Rattle.forms.proofs.Laws.Joint.Zeros.{joint_zeros}
 use Rattle.recode.specs.declared.answer.Recoded.TheVariants.{Written}
 use Rattle.recode.specs.Call.{wrote_columns, filled}
 use Rattle.recode.proofs.Laid.{Laid, laid_none, laid_zeros, laid_digit}

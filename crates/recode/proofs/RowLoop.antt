@@ -9,11 +9,11 @@ use Rattle.digits.specs.Byte.{byte_of}
 use Rattle.digits.specs.Scalar.{Bytes}
 use Rattle.digits.specs.Integer.{half}
 use Rattle.digits.specs.Scalar.{little}
-use Rattle.forms.specs.Row.Digit.{digit_meets, digit_mod}
+use Rattle.forms.proofs.Laws.Row.Digit.{digit_meets, digit_mod}
 use Rattle.forms.specs.Row.OddDigit.{digit_small}
 use Rattle.forms.specs.Residue.{width}
 use Rattle.forms.specs.Row.{row, digit, rest}
-use Rattle.forms.specs.Row.Natural.{rest_pos}
+use Rattle.forms.proofs.Laws.Row.Natural.{rest_pos}
 use Rattle.forms.specs.Residue.Width.{width_least}
 use Rattle.recode.specs.declared.low.Low.{Low}
 use Rattle.recode.specs.declared.answer.Recoded.TheVariants.{Written}

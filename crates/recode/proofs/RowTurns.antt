@@ -13,10 +13,10 @@ use Rattle.digits.specs.Row as Rows
 use Rattle.digits.specs.Row.Adding.{count_odd}
 use Rattle.digits.specs.Row.Weight.{weight_append, weight_zeros, weight_most}
 use Rattle.forms.specs.Row.{row, digit, rest}
-use Rattle.forms.specs.Row.Digit.{digit_meets}
+use Rattle.forms.proofs.Laws.Row.Digit.{digit_meets}
 use Rattle.forms.specs.Row.OddDigit.{digit_cases}
-use Rattle.forms.specs.Row.Natural.{row_zeros}
-use Rattle.forms.specs.Row.Only.{row_zero, row_unfold}
+use Rattle.forms.proofs.Laws.Row.Natural.{row_zeros}
+use Rattle.forms.proofs.Laws.Row.Only.{row_zero, row_unfold}
 use Rattle.recode.specs.declared.answer.Recoded.TheVariants.{Written}
 use Rattle.recode.specs.Call.{wrote_row, filled}
 use Rattle.recode.proofs.Laid.{Laid, laid_none, laid_zeros, laid_digit}

@@ -11,7 +11,7 @@ use lib.IntN.{ℤ, pos, neg_ℤ}
 use lib.ListN.{length, get_or, set, take, drop, replicate, length-map, length-append}
 use lib.Seq.{take_at, drop_at}
 use Rattle.digits.specs.Byte.{byte_of, turned}
-use Rattle.digits.specs.Byte.Signed.{byte_negated}
+use Rattle.digits.proofs.Laws.Byte.Signed.{byte_negated}
 use Rattle.digits.specs.Column.Length.{row_length}
 use Rattle.digits.specs.Integer.{signed_by}
 use Rattle.digits.specs.Row.Sign.{plus_row, weight_signed}
@@ -19,9 +19,9 @@ use Rattle.digits.specs.Scalar.{scalar, signed_scalar}
 use Rattle.digits.specs.Two.{Two, of, two}
 use Rattle.digits.specs.Column as Columns
 use Rattle.forms.specs.Joint.{joint}
-use Rattle.forms.specs.Joint.Negated.{joint_negates, joint_signed_size}
+use Rattle.forms.proofs.Laws.Joint.Negated.{joint_negates, joint_signed_size}
 use Rattle.forms.specs.Row.{row}
-use Rattle.forms.specs.Row.Negated.{row_signed}
+use Rattle.forms.proofs.Laws.Row.Negated.{row_signed}
 use Rattle.recode.specs.declared.answer.Recoded.TheVariants.{Written}
 use Rattle.recode.specs.Body.Sign.{signed_below}
 use Rattle.recode.specs.Call.{wrote_row, wrote_columns, filled}

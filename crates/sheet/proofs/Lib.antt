@@ -1,3 +1,4 @@
 pub mod CutTurns
 pub mod FieldTurns
 pub mod SignTurns
+pub mod Laws

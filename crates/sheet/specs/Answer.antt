@@ -1,6 +1,4 @@
 -- The answer to a sheet, and when it is accepted for k and l.
-pub mod Exactly
-pub mod Wider
 use Rattle.std.specs.Prelude.{◌≡◌, List, [], ◌∷◌, ℕ, ℤ, pos}
 use Rattle.std.proofs.Math.Option.{Option, none, some}
 use Rattle.digits.specs.declared.limits.Limits.{Limits}

@@ -1,5 +1,4 @@
 -- The digits of a sheet: the columns that its steps make, place 0 first, and when they are a plan's.
-pub mod Accepted
 use Rattle.std.specs.Prelude.{◌≡◌, List, [], ◌∷◌, ℕ, ◌+◌, ◌-◌, ℤ}
 use Rattle.digits.specs.Row.{value, Over}
 use Rattle.digits.specs.Row as Rows

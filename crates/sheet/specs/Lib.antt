@@ -8,6 +8,5 @@ pub mod Questions
 pub mod Answer
 pub mod Sound
 pub mod Digits
-pub mod Promise
 pub mod Samples
 pub mod Every

@@ -1,6 +1,4 @@
 -- Plans: the slots that each needs, the points of its T lines, and what these cost.
-pub mod Cost
-pub mod Slots
 use Rattle.std.specs.Prelude.{Bool, ◌||◌, cond, List, [], ◌∷◌, ◌++◌, map, ℕ, zero, suc, ◌+◌, ◌-◌, ◌/◌, leb, ℤ, pos, negsuc}
 use Rattle.digits.specs.Row.{widest}
 use Rattle.digits.specs.Two.{Column}

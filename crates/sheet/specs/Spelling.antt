@@ -3,7 +3,6 @@ pub mod Spelled
 pub mod Read
 pub mod Cut
 pub mod Field
-pub mod Whole
 use Rattle.std.specs.Prelude.{cond, List, [], ◌∷◌, ◌++◌, ℕ, zero, suc, eqb, length, get_or, ℤ, pos, negsuc}
 use Rattle.std.proofs.Math.Option.{Option, none, some}
 use Prim.Native.Char.{code}

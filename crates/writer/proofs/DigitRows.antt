@@ -9,20 +9,20 @@ use lib.IntN.{ℤ, pos}
 use lib.ListN.{length, drop, replicate}
 use borrow.Author.Tests.{le-leb}
 use Rattle.digits.specs.Buffer.{row_below, columns_below}
-use Rattle.digits.specs.Buffer.Read.{columns_read}
+use Rattle.digits.proofs.Laws.Buffer.Read.{columns_read}
 use Rattle.digits.specs.Byte.{byte_of, signed}
-use Rattle.digits.specs.Byte.Signed.{signed_byte}
+use Rattle.digits.proofs.Laws.Byte.Signed.{signed_byte}
 use Rattle.digits.specs.Column.{row}
 use Rattle.digits.specs.Limits.{gateway}
 use Rattle.digits.specs.Row.{Digit, Over, is_window}
 use Rattle.digits.specs.Scalar.{Bytes, signed_scalar, sized, bit_length}
-use Rattle.digits.specs.Scalar.Signed.{scalar_size, signed_bounded}
+use Rattle.digits.proofs.Laws.Scalar.Signed.{scalar_size, signed_bounded}
 use Rattle.digits.specs.Scalar.Sized.{both}
 use Rattle.digits.specs.Scalar.Value.{length_bytes}
 use Rattle.digits.specs.Two.{Column, P, Q, two, paired}
 use Rattle.digits.specs.Two.Paired.{paired_length}
 use Rattle.forms.specs.Joint.{joint}
-use Rattle.forms.specs.Joint.Value.{joint_small}
+use Rattle.forms.proofs.Laws.Joint.Value.{joint_small}
 use Rattle.recode.specs.Call.{roomy, places_written, weight_written, wrote_row, wrote_columns, filled, left, answer_with, buffer_with, joint_answer, joint_buffer}
 use Rattle.recode.specs.Call.Lent.{filled_long}
 use Rattle.recode.specs.declared.answer.Recoded.{Recoded}

@@ -11,14 +11,14 @@ use Rattle.digits.specs.declared.limits.Limits.{Limits}
 use Rattle.digits.specs.Limits.{card, gateway, bits}
 use Rattle.digits.specs.Row.{is_window}
 use Rattle.digits.specs.Scalar.{Bytes, signed_scalar, sized}
-use Rattle.digits.specs.Scalar.Signed.{signed_bounded}
+use Rattle.digits.proofs.Laws.Scalar.Signed.{signed_bounded}
 use Rattle.digits.specs.Scalar.Sized.{both, both_sized, some_bytes, sized_wider}
 use Rattle.digits.specs.Two.{Column}
 use Rattle.sheet.specs.declared.Plan.{Plan}
 use Rattle.sheet.specs.declared.Plan.TheVariants.{J, I}
 use Rattle.written.specs.Enough.{Enough, card_enough, gateway_enough}
 use Rattle.written.specs.Makes.{Makes}
-use Rattle.written.specs.Promise.{sheet_fits}
+use Rattle.written.proofs.Laws.Promise.{sheet_fits}
 use Rattle.written.specs.Valid.{Valid}
 use Rattle.written.specs.Written.{sheet_of, written}
 use Rattle.writer.specs.declared.answer.Sheet.{Sheet}

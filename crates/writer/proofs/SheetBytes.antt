@@ -20,7 +20,7 @@ use Rattle.sheet.specs.Plan.{Point, slots, tables, table_additions, table_doubli
 use Rattle.sheet.specs.Sound.{Steps, step_lines, sheet_lines}
 use Rattle.sheet.specs.Spelling.{comma, line_feed, scalar, kind, join, spell}
 use Rattle.written.specs.Enough.{gateway_enough}
-use Rattle.written.specs.Promise.{sheet_cost, sheet_few, sheet_places, sheet_header, sheet_doublings}
+use Rattle.written.proofs.Laws.Promise.{sheet_cost, sheet_few, sheet_places, sheet_header, sheet_doublings}
 use Rattle.written.specs.Written.Lengths.{spell_append}
 use Rattle.written.specs.Written.{kind_of, first, second, heading, steps_down, steps_of, additions_of, doublings_of, sheet_of}
 use Rattle.writer.specs.Body.Parts.{column_at, columns_down, letters_of, decimals_of, scalars_of, header_bytes, Bounded, Ready}

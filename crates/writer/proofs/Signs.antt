@@ -7,7 +7,7 @@ use native.Mathlib.Omega.{arith}
 use lib.IntN.{ℤ, pos, negsuc, nat_abs}
 use Rattle.digits.specs.Integer.{is_negative}
 use Rattle.digits.specs.Scalar.{scalar, signed_scalar}
-use Rattle.digits.specs.Scalar.Signed.{scalar_size}
+use Rattle.digits.proofs.Laws.Scalar.Signed.{scalar_size}
 use Rattle.sheet.specs.Numeral.{numeral}
 use Rattle.sheet.specs.Spelling as Spelling
 use Rattle.sheet.specs.Spelling.{minus}

@@ -14,7 +14,7 @@ use Rattle.written.specs.Written.Lengths.{spell_append}
 use Rattle.digits.specs.Byte.{signed}
 use Rattle.writer.specs.Body.Parts.{Put, Room, point_line, alone, odd_lines, window_bytes}
 use Rattle.writer.proofs.Puts.{Progress, begun, advance, finished, progress_same, progress_room, room_first}
-use Rattle.digits.specs.Byte.Signed.{signed_plain}
+use Rattle.digits.proofs.Laws.Byte.Signed.{signed_plain}
 use Rattle.writer.proofs.StepBytes.{spell_table}
 
 pub alone_q : (q : Bool) (n : ℕ) → n < 128 → q ≡ true → point_line 84 (alone q n) ≡ point_line 84 (point (signed 0) (signed n))

@@ -3,4 +3,3 @@ pub mod Valid
 pub mod Enough
 pub mod Makes
 pub mod Written
-pub mod Promise

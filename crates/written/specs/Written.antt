@@ -1,6 +1,5 @@
 -- The sheet that is written for two signed scalars and a plan, from columns, from the highest place down to place 0; and the one
 -- whose columns are those of the row or joint form.
-pub mod Accepted
 pub mod Columns
 pub mod Stepping
 pub mod Lengths

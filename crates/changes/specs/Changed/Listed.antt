@@ -9,7 +9,7 @@ use Rattle.sheet.specs.declared.Plan.{Plan}
 use Rattle.sheet.specs.declared.Plan.TheVariants.{J, I}
 use Rattle.sheet.specs.Numeral.Read.{number_numeral}
 use Rattle.sheet.specs.Spelling.{scalar, read_scalar}
-use Rattle.sheet.specs.Spelling.Whole.{read_whole_lem}
+use Rattle.sheet.proofs.Laws.Spelling.Whole.{read_whole_lem}
 use Rattle.chooser.specs.Cheapest.Lists.{in_map}
 use Rattle.chooser.specs.Lexicographic.{before}
 use Rattle.chooser.specs.Lexicographic.Order.{In, here, there, before_less, before_agrees}

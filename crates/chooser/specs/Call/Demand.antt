@@ -8,7 +8,7 @@ use Rattle.std.proofs.Math.Seq.{take-append_seam}
 use Rattle.digits.specs.declared.limits.Limits.{Limits}
 use Rattle.digits.specs.Limits.{bits}
 use Rattle.digits.specs.Scalar.{Bytes, scalar, signed_scalar, sized}
-use Rattle.digits.specs.Scalar.Signed.{signed_bounded}
+use Rattle.digits.proofs.Laws.Scalar.Signed.{signed_bounded}
 use Rattle.writer.specs.declared.answer.Sheet.{Sheet}
 use Rattle.writer.specs.declared.answer.Sheet.TheVariants.{BadScalar, NoRoom, BadLimit}
 use Rattle.sheet.specs.Plan.{is_limit}

@@ -3,7 +3,7 @@ use Rattle.std.specs.Prelude.{◌≡◌, refl, ◌≢◌, ◌⊎◌, Bool, true,
 use Rattle.std.proofs.Common.{sym, ap, subst, ◌∙◌, inl, inr, arith}
 use Rattle.digits.specs.Row.{value, is_window}
 use Rattle.digits.specs.Two.{Column}
-use Rattle.forms.specs.Promise.{row_fewest, joint_fewest}
+use Rattle.forms.proofs.Laws.Promise.{row_fewest, joint_fewest}
 use Rattle.forms.specs.Row.{row}
 use Rattle.sheet.specs.declared.Plan.{Plan}
 use Rattle.sheet.specs.declared.Plan.TheVariants.{J, I}

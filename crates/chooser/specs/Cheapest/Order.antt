@@ -4,7 +4,7 @@ use Rattle.std.proofs.Common.{sym, ap, ap₂, subst, ◌∙◌, inl, inr, arith}
 use Prim.Native.Nat.{ℕ, ◌<◌}
 use Rattle.sheet.specs.declared.Plan.{Plan}
 use Rattle.sheet.specs.declared.Plan.TheVariants.{J, I}
-use Rattle.sheet.specs.Plan.Slots.{second_told}
+use Rattle.sheet.proofs.Laws.Plan.Slots.{second_told}
 use Rattle.sheet.specs.Plan.{slots}
 use Rattle.written.specs.Valid.{Valid, for_j, for_i}
 use Rattle.written.specs.Written.{first, written_additions, written_doublings}

@@ -6,13 +6,13 @@ use Rattle.std.proofs.Common.{sym, ap, subst, arith}
 use Rattle.digits.specs.declared.limits.Limits.{Limits}
 use Rattle.digits.specs.Limits.{bits}
 use Rattle.sheet.specs.Answer.{Accepted, heading, sheet_slots, sheet_additions}
-use Rattle.sheet.specs.Promise.{accepted_exactly, accepted_states, accepted_rows}
+use Rattle.sheet.proofs.Laws.Promise.{accepted_exactly, accepted_states, accepted_rows}
 use Rattle.sheet.specs.Digits.{columns}
 use Rattle.sheet.specs.Line.{Kind, Header, plan, plan_of}
 use Rattle.sheet.specs.Sound.{Windows, for_j, for_i, sheet_lines}
 use Rattle.sheet.specs.Spelling.{lines}
 use Rattle.written.specs.Enough.{Enough}
-use Rattle.written.specs.Promise.{written_accepted, written_lines_lem, written_plan, written_slots, written_counted, written_doubled, written_cost, written_columns}
+use Rattle.written.proofs.Laws.Promise.{written_accepted, written_lines_lem, written_plan, written_slots, written_counted, written_doubled, written_cost, written_columns}
 use Rattle.written.specs.Valid as Valids
 use Rattle.written.specs.Valid.{Valid}
 use Rattle.written.specs.Written.{digits, written_additions, written_doublings}

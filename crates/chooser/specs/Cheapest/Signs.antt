@@ -4,10 +4,10 @@ use Rattle.std.specs.Prelude.{◌≡◌, List, ℕ, ℤ, pos, nat_abs}
 use Rattle.std.proofs.Math.Path.{ap₂}
 use Rattle.std.proofs.Common.{◌∙◌}
 use Rattle.digits.specs.Scalar.{scalar, signed_scalar}
-use Rattle.digits.specs.Scalar.Signed.{scalar_size}
+use Rattle.digits.proofs.Laws.Scalar.Signed.{scalar_size}
 use Rattle.sheet.specs.declared.Plan.{Plan}
 use Rattle.sheet.specs.declared.Plan.TheVariants.{I}
-use Rattle.written.specs.Promise.{written_signs}
+use Rattle.written.proofs.Laws.Promise.{written_signs}
 use Rattle.written.specs.Valid.{Valid}
 use Rattle.chooser.specs.Cheapest.{key_with, key, plans, within, cheapest_plan}
 use Rattle.chooser.specs.Cheapest.Least.{smallest, within_valid}

@@ -9,10 +9,10 @@ use native.Mathlib.Omega.{arith}
 use borrow.Author.Tests.{ltb-true, ltb-false}
 use Rattle.std.proofs.Math.Dec.{ltb}
 use Rattle.digits.specs.Scalar.{scalar, signed_scalar}
-use Rattle.digits.specs.Scalar.Signed.{scalar_size}
+use Rattle.digits.proofs.Laws.Scalar.Signed.{scalar_size}
 use Rattle.sheet.specs.declared.Plan.{Plan}
 use Rattle.sheet.specs.Plan.{most_slots}
-use Rattle.written.specs.Promise.{written_signs}
+use Rattle.written.proofs.Laws.Promise.{written_signs}
 use Rattle.written.specs.Written.{written_additions}
 use Rattle.chooser.specs.declared.next.NextLimit.{NextLimit}
 use Rattle.chooser.specs.declared.next.NextLimit.TheVariants.{Pays, None}

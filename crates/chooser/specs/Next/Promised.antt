@@ -6,7 +6,7 @@ use Rattle.std.proofs.Math.Bool.{true, false, cond}
 use Rattle.digits.specs.declared.limits.Limits.{Limits}
 use Rattle.digits.specs.Limits.{bits}
 use Rattle.digits.specs.Scalar.{Bytes, signed_scalar, sized}
-use Rattle.digits.specs.Scalar.Signed.{signed_bounded}
+use Rattle.digits.proofs.Laws.Scalar.Signed.{signed_bounded}
 use Rattle.sheet.specs.Answer.{sheet_additions}
 use Rattle.sheet.specs.Plan.{most_slots, is_limit}
 use Rattle.written.specs.Enough.{Enough}

@@ -7,15 +7,15 @@ use Rattle.std.proofs.Math.Bool.{true, false}
 use Prim.Native.Nat.{ℕ, ◌-◌, max}
 use Rattle.std.proofs.Math.IntN.{ℤ}
 use Rattle.digits.specs.Buffer.{row_below}
-use Rattle.digits.specs.Buffer.Read.{column_row}
+use Rattle.digits.proofs.Laws.Buffer.Read.{column_row}
 use Rattle.digits.specs.Buffer.Zeros.{padded_at}
 use Rattle.digits.specs.declared.limits.Limits.{Limits}
 use Rattle.digits.specs.Scalar.{signed_scalar, sized}
 use Rattle.digits.specs.Two.{Column, Two, P, Q, other, of}
 use Rattle.forms.specs.Codes.{digits, remainder_at, codes}
 use Rattle.forms.specs.Joint.{joint}
-use Rattle.forms.specs.Joint.Value.{joint_small}
-use Rattle.forms.specs.Promise.{joint_value, joint_keeps, joint_top, remainder_is, codes_held, codes_digits_lem}
+use Rattle.forms.proofs.Laws.Joint.Value.{joint_small}
+use Rattle.forms.proofs.Laws.Promise.{joint_value, joint_keeps, joint_top, remainder_is, codes_held, codes_digits_lem}
 use Rattle.forms.specs.Test.{rows}
 use Rattle.recode.specs.Call.{number, wrote_columns, roomy, filled, left, joint_answer, joint_buffer}
 use Rattle.recode.specs.Call.Joint.{digits_of}

@@ -6,7 +6,7 @@ use borrow.Author.Tests.{le-leb}
 use Rattle.std.proofs.Math.IntN.{ℤ}
 use Rattle.digits.specs.Limits.{card}
 use Rattle.digits.specs.Scalar.{scalar, signed_scalar, sized}
-use Rattle.digits.specs.Scalar.Signed.{scalar_size}
+use Rattle.digits.proofs.Laws.Scalar.Signed.{scalar_size}
 use Rattle.digits.specs.Scalar.Sized.{bytes_sized}
 use Rattle.digits.specs.declared.limits.Limits.{Limits}
 use Rattle.sheet.specs.declared.Plan.TheVariants.{I}

@@ -3,10 +3,10 @@
 use Rattle.std.specs.Prelude.{◌≡◌, refl, ℕ, ◌+◌, ◌*◌, ◌-◌, ◌^◌, ◌≤◌, ◌<◌, ℤ, pos, nat_abs}
 use Rattle.std.proofs.Common.{ap, arith}
 use Rattle.digits.specs.Row.{weight}
-use Rattle.forms.specs.Promise.{row_size}
+use Rattle.forms.proofs.Laws.Promise.{row_size}
 use Rattle.forms.specs.Row.{row}
 use Rattle.sheet.specs.declared.Plan.TheVariants.{I}
-use Rattle.written.specs.Promise.{sheet_cost}
+use Rattle.written.proofs.Laws.Promise.{sheet_cost}
 use Rattle.written.specs.Written.{additions_of}
 use Rattle.written.specs.Written.Columns.{paired_weight}
 use Rattle.writer.specs.Rows.{columns_by}

@@ -10,8 +10,8 @@ use Rattle.digits.specs.Scalar.{bit_length, bit_length_in}
 use Rattle.forms.specs.Residue.{Residue, width}
 use Rattle.forms.specs.Residue.Only.{divides}
 use Rattle.forms.specs.Row.{wide, place, row}
-use Rattle.forms.specs.Row.Natural.{row_zeros}
-use Rattle.forms.specs.Row.Only.{row_zero, row_meets, row_only}
+use Rattle.forms.proofs.Laws.Row.Natural.{row_zeros}
+use Rattle.forms.proofs.Laws.Row.Only.{row_zero, row_meets, row_only}
 use Rattle.dearest.specs.Dearest.{naf_weight}
 
 pub weight_zero : naf_weight 0 ≡ 0

@@ -15,11 +15,11 @@ use Rattle.forms.specs.Residue.{width}
 use Rattle.forms.specs.Residue.Only.{congruent}
 use Rattle.forms.specs.Residue.Width.{WidthIs, width_is}
 use Rattle.forms.specs.Row.{DigitRule, even, wide, narrow, digit, rest, row}
-use Rattle.forms.specs.Row.Digit.{digit_meets, digit_mod}
-use Rattle.forms.specs.Row.Fewest.{row_fewest}
+use Rattle.forms.proofs.Laws.Row.Digit.{digit_meets, digit_mod}
+use Rattle.forms.proofs.Laws.Row.Fewest.{row_fewest}
 use Rattle.forms.specs.Row.OddDigit.{halves, half_multiple, digit_small}
-use Rattle.forms.specs.Row.Value.{row_value}
-use Rattle.forms.specs.Row.Only.{row_zero, row_unfold, rest_twice}
+use Rattle.forms.proofs.Laws.Row.Value.{row_value}
+use Rattle.forms.proofs.Laws.Row.Only.{row_zero, row_unfold, rest_twice}
 
 -- ── multiples and remainders ────────────────────────────────────────────────────────────────
 

@@ -16,9 +16,9 @@ use Rattle.digits.specs.Row.Sign.{plus_row, weight_signed}
 use Rattle.digits.specs.Scalar.{bit_length}
 use Rattle.digits.specs.Scalar.Length.{below_length}
 use Rattle.forms.specs.Row.{row}
-use Rattle.forms.specs.Row.Fewest.{row_fewest}
-use Rattle.forms.specs.Row.Negated.{row_size}
-use Rattle.forms.specs.Row.Only.{row_zero}
+use Rattle.forms.proofs.Laws.Row.Fewest.{row_fewest}
+use Rattle.forms.proofs.Laws.Row.Negated.{row_size}
+use Rattle.forms.proofs.Laws.Row.Only.{row_zero}
 use Rattle.down.specs.Down.{under, taken, window, places, trimmed, natural}
 use Rattle.down.specs.Down as Down
 use Rattle.down.specs.Down.Bits.{shifted, under_is, near}

@@ -7,7 +7,7 @@ use Rattle.digits.specs.Limits.{card, gateway, bits}
 use Rattle.digits.specs.Missed.{either_way}
 use Rattle.digits.specs.Row.{is_window}
 use Rattle.digits.specs.Scalar.{Bytes, signed_scalar, sized}
-use Rattle.digits.specs.Scalar.Signed.{signed_bounded}
+use Rattle.digits.proofs.Laws.Scalar.Signed.{signed_bounded}
 use Rattle.digits.specs.Scalar.Sized.{both}
 use Rattle.digits.specs.Two.{Column}
 use Rattle.recode.specs.Call.{row_answer, joint_answer}
@@ -22,7 +22,7 @@ use Rattle.sheet.specs.declared.Plan.{Plan}
 use Rattle.sheet.specs.declared.Plan.TheVariants.{J, I}
 use Rattle.written.specs.Enough.{Enough, card_enough, gateway_enough}
 use Rattle.written.specs.Makes.{Makes}
-use Rattle.written.specs.Promise.{sheet_fits, sheet_few, written_few}
+use Rattle.written.proofs.Laws.Promise.{sheet_fits, sheet_few, written_few}
 use Rattle.written.specs.Valid.{Valid, for_j}
 use Rattle.written.specs.Written.{digits}
 use Rattle.written.specs.Written.Columns.{digits_make}

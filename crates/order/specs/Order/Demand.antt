@@ -10,7 +10,7 @@ use Rattle.sheet.specs.Answer.{accepted, refused, answer, Accepted}
 use Rattle.sheet.specs.Numeral.{numeral_in, numeral}
 use Rattle.sheet.specs.Plan.{is_limit}
 use Rattle.sheet.specs.Samples.{computed}
-use Rattle.sheet.specs.Spelling.Whole.{whole_below}
+use Rattle.sheet.proofs.Laws.Spelling.Whole.{whole_below}
 use Rattle.sheet.specs.Spelling.{comma, cut, read_scalar, read_decimal, ◌>>=◌}
 use Rattle.chooser.specs.Call.{Cheapest}
 use Rattle.chooser.specs.Call.Demand.{cheapest_sheet}

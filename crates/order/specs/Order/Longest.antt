@@ -6,7 +6,7 @@ use Rattle.std.proofs.Math.Decide.{dec_lt}
 use Rattle.digits.specs.Limits.{card}
 use Rattle.sheet.specs.Spelling.Cut.{cut_some}
 use Rattle.sheet.specs.Numeral.{number}
-use Rattle.sheet.specs.Spelling.Whole.{number_long, whole_long}
+use Rattle.sheet.proofs.Laws.Spelling.Whole.{number_long, whole_long}
 use Rattle.sheet.specs.Spelling.{line_feed, comma, push, cut, read_scalar, read_decimal, ◌>>=◌}
 use Rattle.order.specs.Order.{Order, only_line, line_in, line_of, read_fields, read_order, refusal, answered, printed}
 

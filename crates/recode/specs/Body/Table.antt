@@ -5,7 +5,7 @@ use Rattle.std.proofs.Common.{sym, ◌∙◌, arith}
 use Rattle.digits.specs.Integer.{rem}
 use Rattle.digits.specs.Integer.Parts.{rem_lt}
 use Rattle.forms.specs.Joint.{digit}
-use Rattle.forms.specs.Joint.Digit.{digit_rem}
+use Rattle.forms.proofs.Laws.Joint.Digit.{digit_rem}
 use Rattle.forms.specs.Test.{Test, same, every_below}
 
 -- the entry for the remainders x and y: eight entries for each x, one for each y

@@ -11,12 +11,12 @@ use Rattle.digits.specs.Missed.{either_way}
 use Rattle.digits.specs.Row.{is_window, weight}
 use Rattle.digits.specs.Row.Weight as Rows
 use Rattle.digits.specs.Scalar.{Bytes, signed_scalar, sized, bit_length}
-use Rattle.digits.specs.Scalar.Signed.{scalar_size}
+use Rattle.digits.proofs.Laws.Scalar.Signed.{scalar_size}
 use Rattle.digits.specs.Scalar.Sized.{both, some_bytes}
 use Rattle.digits.specs.Scalar.Value.{length_bytes}
 use Rattle.digits.specs.Two.{two}
 use Rattle.forms.specs.Joint.{joint}
-use Rattle.forms.specs.Promise.{joint_length}
+use Rattle.forms.proofs.Laws.Promise.{joint_length}
 use Rattle.recode.specs.declared.answer.Recoded.{Recoded}
 use Rattle.recode.specs.declared.answer.Recoded.TheVariants.{BadScalar, BadWindow, NoRoom}
 use Rattle.recode.specs.Call.{places_written, weight_written, wrote_row, wrote_columns, roomy, answer_with, row_answer, RowBy, joint_answer}

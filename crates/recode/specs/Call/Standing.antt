@@ -5,7 +5,7 @@ use Rattle.std.proofs.Common.{sym, ap, ap₂, subst, ◌∙◌, arith}
 use Rattle.std.proofs.Math.Bool.{Bool, cond}
 use mathlib.Core.List.{List}
 use Rattle.digits.specs.Buffer.{row_below}
-use Rattle.digits.specs.Buffer.Read.{row_read, columns_read}
+use Rattle.digits.proofs.Laws.Buffer.Read.{row_read, columns_read}
 use Rattle.digits.specs.Column as Columns
 use Rattle.digits.specs.declared.limits.Limits.{Limits}
 use Rattle.digits.specs.Row.{is_window, value, weight}
@@ -13,8 +13,8 @@ use Rattle.digits.specs.Row.Window.{window_parts}
 use Rattle.digits.specs.Scalar.{signed_scalar, sized}
 use Rattle.digits.specs.Two.{Column, P, Q, two}
 use Rattle.forms.specs.Joint.{Keeps, Topped, joint}
-use Rattle.forms.specs.Joint.Value.{joint_small}
-use Rattle.forms.specs.Promise.{row_meets, row_digits, row_value, row_top, row_length, row_fewest, joint_value, joint_keeps, joint_top, joint_length, joint_only, joint_fewest}
+use Rattle.forms.proofs.Laws.Joint.Value.{joint_small}
+use Rattle.forms.proofs.Laws.Promise.{row_meets, row_digits, row_value, row_top, row_length, row_fewest, joint_value, joint_keeps, joint_top, joint_length, joint_only, joint_fewest}
 use Rattle.forms.specs.Row.{row}
 use Rattle.recode.specs.declared.answer.Recoded.{Recoded}
 use Rattle.recode.specs.declared.answer.Recoded.TheVariants.{BadScalar, BadWindow, NoRoom, Written}

@@ -6,7 +6,7 @@ use Rattle.std.proofs.Common.{sym, ap, ◌∙◌}
 use Rattle.std.proofs.Math.Bool.{Bool, true, false, cond}
 use mathlib.Core.List.{List}
 use Rattle.std.proofs.Math.Seq.{take-append_seam}
-use Rattle.digits.specs.Scalar.Signed.{signed_bounded}
+use Rattle.digits.proofs.Laws.Scalar.Signed.{signed_bounded}
 use Rattle.digits.specs.Scalar.Sized.{both}
 use Rattle.digits.specs.declared.limits.Limits.{Limits}
 use Rattle.digits.specs.Limits.{bits}
@@ -20,7 +20,7 @@ use Rattle.sheet.specs.declared.Plan.{Plan}
 use Rattle.sheet.specs.declared.Plan.TheVariants.{J, I}
 use Rattle.written.specs.Enough.{Enough}
 use Rattle.written.specs.Makes.{Makes}
-use Rattle.written.specs.Promise.{sheet_accepted, sheet_slots_lem, sheet_counted, sheet_lines, sheet_columns}
+use Rattle.written.proofs.Laws.Promise.{sheet_accepted, sheet_slots_lem, sheet_counted, sheet_lines, sheet_columns}
 use Rattle.written.specs.Valid.{Valid, for_j}
 use Rattle.written.specs.Written.{digits, sheet_of, additions_of}
 use Rattle.written.specs.Written.Columns.{digits_make}

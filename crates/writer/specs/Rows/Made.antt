@@ -13,7 +13,7 @@ use Rattle.recode.specs.Call.{RowBy}
 use Rattle.recode.specs.Call.Standing.{row_kept}
 use Rattle.sheet.specs.declared.Plan.TheVariants.{I}
 use Rattle.written.specs.Makes.{Makes}
-use Rattle.written.specs.Promise.{sheet_cost}
+use Rattle.written.proofs.Laws.Promise.{sheet_cost}
 use Rattle.written.specs.Written.{additions_of}
 use Rattle.written.specs.Written.Columns.{rows_make, paired_weight}
 use Rattle.writer.specs.declared.rows.Rows.{Rows}

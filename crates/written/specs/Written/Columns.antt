@@ -12,13 +12,13 @@ use Rattle.digits.specs.Column.{row}
 use Rattle.digits.specs.Two.{Column, P, Q, blank, blank_digit, paired}
 use Rattle.digits.specs.Two.Paired.{paired_length, paired_at}
 use Rattle.forms.specs.Joint.{Topped}
-use Rattle.forms.specs.Joint.Length.{joint_length}
-use Rattle.forms.specs.Joint.Negated.{joint_size}
-use Rattle.forms.specs.Joint.Value.{joint_value, joint_small, joint_top}
+use Rattle.forms.proofs.Laws.Joint.Length.{joint_length}
+use Rattle.forms.proofs.Laws.Joint.Negated.{joint_size}
+use Rattle.forms.proofs.Laws.Joint.Value.{joint_value, joint_small, joint_top}
 use Rattle.forms.specs.Row as Row
-use Rattle.forms.specs.Row.Length.{row_length}
-use Rattle.forms.specs.Row.Negated.{row_size}
-use Rattle.forms.specs.Row.Value.{row_digits, row_value, row_top}
+use Rattle.forms.proofs.Laws.Row.Length.{row_length}
+use Rattle.forms.proofs.Laws.Row.Negated.{row_size}
+use Rattle.forms.proofs.Laws.Row.Value.{row_digits, row_value, row_top}
 use Rattle.sheet.specs.declared.Plan.{Plan}
 use Rattle.sheet.specs.declared.Plan.TheVariants.{I}
 use Rattle.sheet.specs.Digits.{row_p, row_q, weight}

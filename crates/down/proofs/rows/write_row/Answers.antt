@@ -9,7 +9,7 @@ use lib.Seq.{take_at}
 use Rattle.digits.specs.Integer.{signed_by}
 use Rattle.digits.specs.Row.{weight}
 use Rattle.digits.specs.Scalar.{Bytes, scalar, signed_scalar, bit_length}
-use Rattle.digits.specs.Scalar.Signed.{scalar_size}
+use Rattle.digits.proofs.Laws.Scalar.Signed.{scalar_size}
 use Rattle.forms.specs.Residue.{width}
 use Rattle.recode.specs.declared.answer.Recoded.TheVariants.{Written}
 use Rattle.recode.specs.Call.{filled}

@@ -5,8 +5,9 @@ use mathlib.Core.List.{List}
 use Prim.Native.Nat.{ℕ}
 use lib.ListN.{length}
 use Rattle.packing.specs.Call.{roomy, packable}
-use Rattle.packing.specs.Call.Returned.{pack_done, pack_bad, pack_short}
-use Rattle.packing.specs.Call.Standing.{Rooms, rooms}
+use Rattle.packing.proofs.Laws.Call.Returned.{pack_done, pack_bad, pack_short}
+use Rattle.packing.specs.Call.Standing.{Rooms}
+use Rattle.packing.proofs.Laws.Call.Standing.{rooms}
 use Rattle.packing.proofs.call.pack.Goals.{After-all_store-l_good, Then-are_roomy}
 use Rattle.packing.proofs.call.pack.Goals as goal
 

@@ -5,8 +5,9 @@ use mathlib.Core.List.{List}
 use Prim.Native.Nat.{ℕ}
 use lib.ListN.{length}
 use Rattle.packing.specs.Call.{roomy}
-use Rattle.packing.specs.Call.Returned.{unpack_done, unpack_bad, unpack_short}
-use Rattle.packing.specs.Call.Standing.{Rooms, rooms}
+use Rattle.packing.proofs.Laws.Call.Returned.{unpack_done, unpack_bad, unpack_short}
+use Rattle.packing.specs.Call.Standing.{Rooms}
+use Rattle.packing.proofs.Laws.Call.Standing.{rooms}
 use Rattle.packing.proofs.call.unpack.Goals.{Then-are_roomy}
 use Rattle.packing.proofs.call.unpack.Goals as goal
 

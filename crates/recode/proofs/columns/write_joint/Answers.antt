@@ -13,7 +13,7 @@ use Rattle.digits.specs.Column.Length.{row_length}
 use Rattle.digits.specs.Scalar.{little, scalar, bit_length}
 use Rattle.digits.specs.Two.{Column, P, Q, two}
 use Rattle.forms.specs.Joint.{joint}
-use Rattle.forms.specs.Joint.Length.{joint_length}
+use Rattle.forms.proofs.Laws.Joint.Length.{joint_length}
 use Rattle.recode.specs.Call.{wrote_columns, filled}
 use Rattle.recode.specs.Call.Lent.{first_length, first_cleared, first_filled, first_places}
 use Rattle.recode.proofs.Prefix.{first_bytes}

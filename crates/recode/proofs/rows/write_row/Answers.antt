@@ -11,7 +11,7 @@ use lib.Seq.{length-take-le}
 use Rattle.digits.specs.Scalar.Value.{length_bytes}
 use Rattle.digits.specs.Scalar.{little, scalar, bit_length}
 use Rattle.forms.specs.Row.{row}
-use Rattle.forms.specs.Row.Length.{row_length}
+use Rattle.forms.proofs.Laws.Row.Length.{row_length}
 use Rattle.recode.specs.Call.{wrote_row, filled}
 use Rattle.recode.specs.Call.Lent.{first_length, first_cleared, first_filled}
 use Rattle.recode.proofs.Prefix.{first_bytes}

@@ -7,7 +7,7 @@ use Rattle.digits.specs.Integer.{up, down}
 use Rattle.digits.specs.Integer.Parts.{integers, sum, times}
 use Rattle.digits.specs.Two.{Two, P, Q, digit}
 use Rattle.sheet.specs.Plan.{Point, point, tables, table_doublings}
-use Rattle.sheet.specs.Plan.Cost.{doublings_append, tables_doublings}
+use Rattle.sheet.proofs.Laws.Plan.Cost.{doublings_append, tables_doublings}
 use Rattle.sheet.specs.Line.{Header, Line, plan, header, table, end}
 use Rattle.sheet.specs.Questions.{misplaced, off_plan, excess, excess_from, doublings, plus, held, result}
 use Rattle.sheet.specs.Questions.Placed.{laid_out, LaidOut, fault}

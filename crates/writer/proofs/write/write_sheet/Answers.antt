@@ -9,7 +9,7 @@ use lib.ListN.{length}
 use Rattle.digits.specs.Buffer.{columns_below}
 use Rattle.digits.specs.Scalar.{signed_scalar}
 use Rattle.digits.specs.Two.{Column}
-use Rattle.written.specs.Written.Accepted.{few_doublings}
+use Rattle.written.proofs.Laws.Written.Accepted.{few_doublings}
 use Rattle.written.specs.Written.{additions_of, sheet_of}
 use Rattle.writer.specs.declared.answer.Sheet.TheVariants.{Written}
 use Rattle.writer.specs.Body.Parts.{Room}

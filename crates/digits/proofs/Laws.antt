@@ -1,0 +1,4 @@
+-- Laws.
+pub mod Buffer
+pub mod Byte
+pub mod Scalar

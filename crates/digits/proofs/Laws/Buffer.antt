@@ -1,0 +1,2 @@
+-- Laws of Buffer.
+pub mod Read

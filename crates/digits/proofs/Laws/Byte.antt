@@ -1,0 +1,2 @@
+-- Laws of Byte.
+pub mod Signed

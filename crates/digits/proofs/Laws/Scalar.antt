@@ -1,0 +1,2 @@
+-- Laws of Scalar.
+pub mod Signed

@@ -1,0 +1,6 @@
+-- Laws.
+pub mod Codes
+pub mod Joint
+pub mod NonAdjacent
+pub mod Promise
+pub mod Row

@@ -1,0 +1,2 @@
+-- Laws of NonAdjacent.
+pub mod Row

@@ -1,0 +1,4 @@
+-- Laws.
+pub mod Call
+pub mod Packing
+pub mod Promise

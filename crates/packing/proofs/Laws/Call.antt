@@ -1,0 +1,4 @@
+-- Laws of Call.
+pub mod Standing
+pub mod Returned
+pub mod Undone

@@ -1,0 +1,2 @@
+-- Laws of Packing.
+pub mod Back

@@ -1,0 +1,3 @@
+-- Laws of Answer.
+pub mod Exactly
+pub mod Wider

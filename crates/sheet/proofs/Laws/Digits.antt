@@ -1,0 +1,2 @@
+-- Laws of Digits.
+pub mod Accepted

@@ -1,0 +1,3 @@
+-- Laws of Plan.
+pub mod Cost
+pub mod Slots

@@ -1,0 +1,4 @@
+-- Laws of Spelling.
+pub mod Read
+pub mod Spelled
+pub mod Whole

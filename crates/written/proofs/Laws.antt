@@ -1,0 +1,3 @@
+-- Laws.
+pub mod Written
+pub mod Promise

@@ -1,0 +1,3 @@
+-- Laws of Written.
+pub mod Stepping
+pub mod Accepted
