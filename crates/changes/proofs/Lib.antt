@@ -2,3 +2,4 @@ pub mod Orders
 pub mod Additions
 pub mod Lines
 pub mod Turns
+pub mod Laws

@@ -10,7 +10,7 @@ use lib.Seq.{take-suc, take_all}
 use Rattle.chooser.specs.Numbers.{from, from_at}
 use Rattle.order.specs.Order.{Order}
 use Rattle.changes.specs.Changed.{orders, same_plan, old_of, new_of, changed, line_of, lines_of, changed_orders}
-use Rattle.changes.specs.Changed.Listed.{orders_numbered}
+use Rattle.changes.proofs.Laws.Changed.Listed.{orders_numbered}
 use Rattle.changes.specs.Body.{order_at, line_if}
 
 order_number : (n : ℕ) → n < 1024 → get_or orders n (order_at 0) ≡ order_at n

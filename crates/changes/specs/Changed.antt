@@ -1,7 +1,6 @@
 -- The orders whose plan is another since doublings come before slots: those with scalars from 0 to 15 and a limit of at most 3, a line
 -- for each.
 pub mod Old
-pub mod Listed
 use Rattle.std.specs.Prelude.{◌≡◌, ◌≢◌, Bool, true, false, ◌&&◌, cond, ℕ, ◌≤◌, ◌<◌, eqb, leb, ℤ, pos, nat_abs, length, drop}
 use mathlib.Core.List.{List, [], ◌∷◌, ◌++◌, map, flat_map}
 use Rattle.sheet.specs.declared.Plan.{Plan}

@@ -1,4 +1,3 @@
 pub mod Changed
 pub mod Body
 pub mod Samples
-pub mod Promise

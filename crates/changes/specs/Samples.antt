@@ -1,19 +1,17 @@
 -- Samples of changed orders: one table of lines, by one computed test.
-use Rattle.std.specs.Prelude.{◌≡◌, ℕ, T, pos}
-use mathlib.Core.List.{List, [], ◌∷◌, Memᴰ}
+use Rattle.std.specs.Prelude.{◌≡◌, ℕ, pos}
+use mathlib.Core.List.{List, [], ◌∷◌}
 use Prim.Native.String.{String}
-use Rattle.forms.specs.Test.{Test, equal, same_list, every_of}
 use Rattle.sheet.specs.Ascii.{ascii}
-use Rattle.chooser.specs.Samples.{computed}
 use Rattle.order.specs.Order.{Order}
-use Rattle.changes.specs.Changed.{old_key, old_plan, changed, line_with, lines_of}
+use Rattle.changes.specs.Changed.{lines_of}
 
 -- a sample: what the list has of one order, a line or nothing
 pub data Sample : Type 0 where
   lists : (k l limit : ℕ) (line : String) → Sample
 
 -- what a sample says
-abbrev order : ℕ → ℕ → ℕ → Order
+abbrev pub order : ℕ → ℕ → ℕ → Order
 order k l limit = record { k = pos k; l = pos l; slots = limit }
 
 abbrev pub Says : Sample → Type 0
@@ -31,15 +29,3 @@ samples =
     -- as many doublings
     ∷ lists 3 2 2 ""
     ∷ []
-
--- the test of a sample
-abbrev sample : (s : Sample) → Test (Says s)
-sample (lists k l limit line) = same_list equal (lines_of (order k l limit ∷ [])) (ascii line)
-
-table : T (every_of sample samples).test
-unfolding computed old_key old_plan changed line_with lines_of
-table = tt
-
--- each sample of the table is true
-pub samples_hold : (s : Sample) → Memᴰ s samples → Says s
-samples_hold = (every_of sample samples).tells table

@@ -20,10 +20,10 @@ use Rattle.chooser.specs.Body.BySlots.{lowered, lowest, lowered_by, by_slots}
 use Rattle.chooser.specs.Body.Choice.{plan_additions}
 use Rattle.chooser.specs.Body.Sizes.{row_sizes, joint_size}
 use Rattle.chooser.specs.Cheapest.{plans, cheapest_plan}
-use Rattle.chooser.specs.Cheapest.Least.{smallest, valid_in, plan_valid, plan_within, plan_least}
+use Rattle.chooser.proofs.Laws.Cheapest.Least.{smallest, valid_in, plan_valid, plan_within, plan_least}
 use Rattle.chooser.specs.Lexicographic.Order.{In, here, there}
 use Rattle.chooser.specs.Next.{fewest, Next, pays, none, next_limit}
-use Rattle.chooser.specs.Next.First.{next_only}
+use Rattle.chooser.proofs.Laws.Next.First.{next_only}
 use Rattle.chooser.proofs.Lowest.{lowest_one, lowest_all}
 use Rattle.chooser.proofs.Numbers.{plans_length}
 use Rattle.chooser.proofs.Turns.{additions_agree}

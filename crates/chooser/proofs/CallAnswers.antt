@@ -23,9 +23,9 @@ use Rattle.chooser.specs.declared.call.Choice.TheVariants as Choices
 use Rattle.chooser.specs.Body.Choice.{plan_answer, plan_buffer}
 use Rattle.chooser.specs.Call.{choice_number, choice_question, choice_answer, ChoicePromised, cheapest_question, cheapest_answer, cheapest_buffer, Promised}
 use Rattle.chooser.specs.Cheapest.{cheapest_plan, cheapest}
-use Rattle.chooser.specs.Cheapest.Least.{plan_within}
-use Rattle.chooser.specs.Cheapest.Signs.{plan_unsigned}
-use Rattle.chooser.specs.Call.Demand.{choice_promised, choice_question_lem, cheapest_promised, cheapest_question_lem}
+use Rattle.chooser.proofs.Laws.Cheapest.Least.{plan_within}
+use Rattle.chooser.proofs.Laws.Cheapest.Signs.{plan_unsigned}
+use Rattle.chooser.proofs.Laws.Call.Demand.{choice_promised, choice_question_lem, cheapest_promised, cheapest_question_lem}
 
 -- ── the plan ────────────────────────────────────────────────────────────────────────────────
 

@@ -7,3 +7,4 @@ pub mod Lowest
 pub mod BySlots
 pub mod CallAnswers
 pub mod NextAnswers
+pub mod Laws

@@ -14,10 +14,10 @@ use Rattle.digits.specs.Two.{P, Q, two}
 use Rattle.forms.specs.Joint.{joint}
 use Rattle.forms.specs.Row.{row}
 use Rattle.recode.specs.Call.{places_written, weight_written, wrote_row, wrote_columns, filled, row_answer, joint_answer}
-use Rattle.recode.specs.Call.Joint as JointAnswers
-use Rattle.recode.specs.Call.Row as RowAnswers
-use Rattle.recode.specs.Call.Short.{row_short, joint_short}
-use Rattle.recode.specs.Call.Standing.{row_kept}
+use Rattle.recode.proofs.Laws.Call.Joint as JointAnswers
+use Rattle.recode.proofs.Laws.Call.Row as RowAnswers
+use Rattle.recode.proofs.Laws.Call.Short.{row_short, joint_short}
+use Rattle.recode.proofs.Laws.Call.Standing.{row_kept}
 use Rattle.recode.specs.declared.answer.Recoded.{Recoded}
 use Rattle.sheet.specs.Questions.Planned.{of_window}
 use Rattle.chooser.specs.declared.sizes.Size.{Size}

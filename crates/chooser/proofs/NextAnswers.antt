@@ -12,8 +12,8 @@ use Rattle.chooser.specs.declared.next.NextLimit.{NextLimit}
 use Rattle.chooser.specs.declared.next.NextLimit.TheVariants.{BadScalar, BadLimit}
 use Rattle.chooser.specs.Call.{choice_question}
 use Rattle.chooser.specs.Next.{next_limit, next_number, next_answer, NextPromised}
-use Rattle.chooser.specs.Next.First.{next_unsigned}
-use Rattle.chooser.specs.Next.Promised.{next_promised, next_question}
+use Rattle.chooser.proofs.Laws.Next.First.{next_unsigned}
+use Rattle.chooser.proofs.Laws.Next.Promised.{next_promised, next_question}
 
 module _ (limits : Limits) (k : List ℕ) (k_sign : ℕ) (l : List ℕ) (l_sign : ℕ) (limit : ℕ) where
   -- what the call returns

@@ -24,8 +24,8 @@ use Rattle.written.specs.Written.Columns.{paired_weight}
 use Rattle.written.specs.Written.{digits, written_additions}
 use Rattle.chooser.specs.Cheapest.{cheapest_plan, key_with, key, plans, within}
 use Rattle.chooser.specs.Body.Choice.{plan_weight, plan_places, plan_additions, cost_key}
-use Rattle.chooser.specs.Cheapest.Least.{smallest, within_valid}
-use Rattle.chooser.specs.Cheapest.Lists.{within_in}
+use Rattle.chooser.proofs.Laws.Cheapest.Least.{smallest, within_valid}
+use Rattle.chooser.proofs.Laws.Cheapest.Lists.{within_in}
 use Rattle.chooser.specs.Candidate.Turns.{take_one}
 use Rattle.chooser.specs.Lexicographic.{better, least}
 use Rattle.chooser.specs.Lexicographic.Order.{least_agrees}

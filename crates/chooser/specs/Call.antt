@@ -1,6 +1,5 @@
 -- What the call for the cheapest sheet answers and leaves in the buffer it is lent, for all input; and what it promises of the
 -- sheet (demand 3). And the same of the call for its plan.
-pub mod Demand
 pub mod Met
 use Rattle.std.specs.Prelude.{◌≡◌, ◌&&◌, cond, List, [], ◌∷◌, ℕ, ◌≤◌, ℤ, pos, length, take}
 use Rattle.digits.specs.declared.limits.Limits.{Limits}

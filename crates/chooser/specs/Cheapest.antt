@@ -1,9 +1,5 @@
 -- The cheapest sheet for two signed scalars under a slot limit: the order of plans, and the first in it.
 pub mod Lists
-pub mod Order
-pub mod Least
-pub mod Signs
-pub mod Sheet
 use Rattle.std.specs.Prelude.{◌≡◌, ◌≢◌, ◌⊎◌, cond, List, [], ◌∷◌, ◌++◌, map, ℕ, ◌≤◌, ◌<◌, ℤ}
 use Rattle.sheet.specs.declared.Plan.{Plan}
 use Rattle.sheet.specs.declared.Plan.TheVariants.{J, I}

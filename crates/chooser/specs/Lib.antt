@@ -3,8 +3,6 @@ pub mod Numbers
 pub mod Cheapest
 pub mod Candidate
 pub mod Samples
-pub mod Demand3
 pub mod Call
 pub mod Next
-pub mod Promise
 pub mod Body

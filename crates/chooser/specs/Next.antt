@@ -1,7 +1,5 @@
 -- How many more slots would pay: the smallest larger limit at which the cheapest sheet has fewer additions. What the call for it answers, for
 -- all input, and what it promises of accepted sheets.
-pub mod First
-pub mod Promised
 use Rattle.std.specs.Prelude.{◌≡◌, ◌&&◌, cond, List, ℕ, zero, suc, ◌-◌, ◌≤◌, ◌<◌, ltb, ℤ}
 use Rattle.digits.specs.declared.limits.Limits.{Limits}
 use Rattle.digits.specs.Scalar.{signed_scalar, sized}

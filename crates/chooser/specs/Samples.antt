@@ -1,7 +1,7 @@
 -- Samples of the order between plans, in which each part of it decides: one table of headers of cheapest sheets, by one computed
 -- test. And of the next limit that pays: another table, by another test.
-use Rattle.std.specs.Prelude.{◌≡◌, ℕ, T, ℤ, pos, get_or}
-use mathlib.Core.List.{List, [], ◌∷◌, Memᴰ}
+use Rattle.std.specs.Prelude.{◌≡◌, ℕ, ℤ, pos, get_or}
+use mathlib.Core.List.{List, [], ◌∷◌}
 use Prim.Native.String.{String}
 use Rattle.digits.specs.Integer.{half}
 use Rattle.digits.specs.Scalar.{bit_length, bit_length_in}
@@ -9,7 +9,6 @@ use Rattle.digits.specs.Two.{paired}
 use Rattle.forms.specs.Residue.{residue, width}
 use Rattle.forms.specs.Row
 use Rattle.forms.specs.Joint
-use Rattle.forms.specs.Test.{Test, both, equal, same_list, every_of}
 use Rattle.sheet.specs.Ascii.{ascii}
 use Rattle.sheet.specs.Numeral.{numeral_in, numeral}
 use Rattle.sheet.specs.Plan.{odds}
@@ -60,18 +59,6 @@ samples =
     ∷ heads 0x12d 0x66 2 "S,I,1,3,2,7,9,12d,66"
     ∷ []
 
--- the test of a sample
-abbrev sample : (s : Sample) → Test (Says s)
-sample (heads k l limit header) = same_list equal (get_or (cut line_feed (cheapest (pos k) (pos l) limit)) 0 []) (ascii header)
-
-table : T (every_of sample samples).test
-unfolding computed
-table = tt
-
--- each sample of the table is true
-pub samples_hold : (s : Sample) → Memᴰ s samples → Says s
-samples_hold = (every_of sample samples).tells table
-
 -- ── limits ──────────────────────────────────────────────────────────────────────────────────
 
 -- a sample: for k and l and a limit the next one that pays and its additions, or 0 and 0
@@ -101,17 +88,3 @@ limits =
     ∷ from 3 0 0 0 0
     ∷ from 0x5a 0x2d 31 0 0
     ∷ []
-
--- the test of a sample
-abbrev limited : (s : LimitSample) → Test (LimitSays s)
-limited s =
-    both (equal (limit_told (next_limit (pos s.k) (pos s.l) s.limit)) s.next)
-    (equal (additions_told (next_limit (pos s.k) (pos s.l) s.limit)) s.additions)
-
-limit_table : T (every_of limited limits).test
-unfolding computed
-limit_table = tt
-
--- each sample of the table is true
-pub limits_hold : (s : LimitSample) → Memᴰ s limits → LimitSays s
-limits_hold = (every_of limited limits).tells limit_table

@@ -22,7 +22,7 @@ use Rattle.forms.specs.Codes.{digits, remainder_at, code_at, below, codes}
 use Rattle.forms.proofs.Laws.Codes.Listed.{below_length, below_at, code_at_lem, codes_length}
 use Rattle.forms.specs.Codes.Next.{by_next}
 use Rattle.forms.proofs.Laws.Codes.Next.{codes_next}
-use Rattle.forms.proofs.Laws.Codes.Place.{digit_at}
+use Rattle.forms.proofs.Laws.Codes.Place.{digit_at_lem}
 use Rattle.forms.specs.Joint.{joint}
 use Rattle.forms.proofs.Laws.Joint.Digit.{digit_fits}
 use Rattle.forms.proofs.Laws.Joint.Length.{joint_length}
@@ -93,7 +93,7 @@ above ds buffer n h = filled_at ds buffer n ∙ ap byte_of (get_or-eq_default ds
 -- the bytes of a row of a joint form, with zeros above it, give its codes
 module _ (k l : ℤ) (r : Two) (buffer : List ℕ) (places : ℕ) (few : length (joint k l) ≤ places) where
   tiny : (i : ℕ) → nat_abs (get_or (digits k l r) i (pos 0)) ≤ 1
-  tiny i = rw (digit_at k l i r) (digit_fits (remainder_at k l r i) (remainder_at k l (other r) i)).0
+  tiny i = rw (digit_at_lem k l i r) (digit_fits (remainder_at k l r i) (remainder_at k l (other r) i)).0
 
   byte_code_lem : (i : ℕ) → byte_code (get_or (filled (digits k l r) buffer) i 0) (get_or (filled (digits k l r) buffer) (suc i) 0) ≡ code_at k l r i
   byte_code_lem i =

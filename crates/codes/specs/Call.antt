@@ -1,7 +1,5 @@
 -- What the call for a joint form with its codes answers and leaves in the four buffers it is lent, for all input; and what it promises
 -- of the codes that stand there.
-pub mod Standing
-pub mod Short
 pub mod Returned
 use Rattle.std.specs.Prelude.{◌≡◌, Bool, ◌&&◌, cond, List, [], ◌∷◌, ◌++◌, ℕ, ◌-◌, max, ℤ, pos, length, get_or, replicate}
 use Rattle.digits.specs.Buffer.{row_below, columns_below}

@@ -1,4 +1,3 @@
 pub mod Call
-pub mod Promise
 pub mod Samples
 pub mod Body

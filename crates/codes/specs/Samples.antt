@@ -1,16 +1,11 @@
 -- Joint forms place by place, the remainders and their codes; and what the call answers where two of its questions are missed at once, and at
 -- the limits of the card and of the gateway. One table, by one computed test.
-use Rattle.std.specs.Prelude.{◌≡◌, ℕ, T, ℤ, pos, neg_ℤ, length, replicate}
-use mathlib.Core.List.{List, [], ◌∷◌, map, Memᴰ}
-use Rattle.digits.specs.Column
-use Rattle.digits.specs.Integer.{half}
+use Rattle.std.specs.Prelude.{◌≡◌, ℕ, ℤ, pos, neg_ℤ, length, replicate}
+use mathlib.Core.List.{List, [], ◌∷◌, map}
 use Rattle.digits.specs.Limits.{card, gateway}
-use Rattle.digits.specs.Row.{value}
 use Rattle.digits.specs.Two.{Two, P, Q}
-use Rattle.forms.specs.Codes.{remainder, code, remainder_at, below, codes}
-use Rattle.forms.specs.Joint.{digit, column, rest, joint_in, joint}
-use Rattle.forms.specs.Residue.{residue}
-use Rattle.forms.specs.Test.{Test, both, equal, same, same_list, every_of}
+use Rattle.forms.specs.Codes.{remainder_at, below, codes}
+use Rattle.forms.specs.Joint.{joint}
 use Rattle.codes.specs.Call.{codes_question}
 
 pub data Sample : Type 0 where
@@ -55,18 +50,3 @@ samples =
     ∷ answers (codes_question gateway (bytes 128) (bytes 1) 1024 1025 1025 1025) 3
     ∷ answers (codes_question gateway (bytes 128) (bytes 1) 1025 1025 1025 1025) 0
     ∷ []
-
--- the test of a sample
-abbrev sample : (s : Sample) → Test (Says s)
-sample (row k l r remainders ns) =
-    both (same_list same (below (remainder_at k l r) (length (joint k l))) remainders)
-    (same_list equal (codes k l r) ns)
-sample (answers told number) = equal told number
-
-table : T (every_of sample samples).test
-unfolding remainder code below codes digit column rest joint_in joint residue half value Column.row
-table = tt
-
--- each sample of the table is true
-pub samples_hold : (s : Sample) → Memᴰ s samples → Says s
-samples_hold = (every_of sample samples).tells table

@@ -1,1 +1,2 @@
 pub mod PairBytes
+pub mod Laws

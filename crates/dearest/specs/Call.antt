@@ -1,7 +1,6 @@
 -- What the call for the dearest scalar answers and leaves in the buffer it is lent, for all input; and what it promises of the bytes that
 -- stand there.
 pub mod Returned
-pub mod Ordered
 use Rattle.std.specs.Prelude.{◌≡◌, Bool, ◌&&◌, cond, List, [], ◌∷◌, ℕ, ltb, leb, eqb, length}
 use Rattle.digits.specs.Limits.{card, bits}
 use Rattle.digits.specs.Missed.{missed}

@@ -1,9 +1,5 @@
 -- The dearest scalar of a size in bits: the least one whose row with window 1 has the most digits that are not 0, and their number. Both are
 -- found by trying every scalar of the size; the words stand beside them as a `record`.
-pub mod Tried
-pub mod Weight
-pub mod Closed
-pub mod Order
 use Rattle.std.specs.Prelude.{◌≡◌, ◌≢◌, cond, ℕ, zero, suc, ◌^◌, ◌≤◌, ◌<◌, max, eqb, pos}
 use Rattle.digits.specs.Row.{weight}
 use Rattle.forms.specs.Row.{row}

@@ -2,5 +2,4 @@ pub mod Dearest
 pub mod Bytes
 pub mod Body
 pub mod Call
-pub mod Promise
 pub mod Samples

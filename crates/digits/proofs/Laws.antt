@@ -1,4 +1,4 @@
--- Laws.
+-- The theorems of this crate on which nothing in specs/ rests: a definition can be made wrong, and these refuse it.
 pub mod Buffer
 pub mod Byte
 pub mod Scalar

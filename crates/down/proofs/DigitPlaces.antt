@@ -13,8 +13,8 @@ use Rattle.digits.specs.Integer.Congruent.{power_step}
 use Rattle.digits.specs.Integer.Parts.{integers, one_side, size, negation, half_even}
 use Rattle.digits.specs.Integer.Sign.{signed_size}
 use Rattle.down.specs.Down.{under, worth, settled, window, places}
-use Rattle.down.specs.Down.Settled.{settled_even, settled_odd, worth_size}
-use Rattle.down.specs.Down.Row.{places_equal}
+use Rattle.down.proofs.Laws.Down.Settled.{settled_even, settled_odd, worth_size}
+use Rattle.down.proofs.Laws.Down.Row.{places_equal}
 use Rattle.down.proofs.AheadBits.{under_place}
 
 -- zeros, a digit, zeros

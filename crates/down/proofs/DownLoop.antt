@@ -16,7 +16,7 @@ use Rattle.forms.specs.Residue.{width}
 use Rattle.down.specs.declared.window.Window.{Window}
 use Rattle.down.specs.Body.Window.{size_of, width_of, WindowOf, place_of, byte_for, Placed}
 use Rattle.down.specs.Down.{worth, beyond, taken, window, places}
-use Rattle.down.specs.Down.Settled.{worth_size}
+use Rattle.down.proofs.Laws.Down.Settled.{worth_size}
 use Rattle.down.specs.Down.Unfold.{places_step}
 use Rattle.down.proofs.AheadBits.{Ahead, equal, inside, worth_is, zeros_reach, taken_is}
 use Rattle.down.proofs.DigitPlaces.{alone, zeros_within, window_is, run_zeros}

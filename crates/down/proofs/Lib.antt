@@ -10,3 +10,4 @@ pub mod HeldBits
 pub mod DigitPlaces
 pub mod Turns
 pub mod DownLoop
+pub mod Laws

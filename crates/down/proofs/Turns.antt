@@ -15,8 +15,8 @@ use Rattle.digits.specs.Row.Weight.{weight_append, weight_zeros, weight_most}
 use Rattle.digits.specs.Scalar.{bit_length}
 use Rattle.recode.specs.Call.{filled}
 use Rattle.down.specs.Down.{places, trimmed, natural}
-use Rattle.down.specs.Down.Row.{natural_from}
-use Rattle.down.specs.Down.Trimmed.{trimmed_weight, trimmed_rest}
+use Rattle.down.proofs.Laws.Down.Row.{natural_from}
+use Rattle.down.proofs.Laws.Down.Trimmed.{trimmed_weight, trimmed_rest}
 use Rattle.down.specs.Down.Unfold.{places_zero}
 use Rattle.down.proofs.DigitPlaces.{alone}
 

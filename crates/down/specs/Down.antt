@@ -3,10 +3,7 @@
 pub mod Bits
 pub mod Unfold
 pub mod Settled
-pub mod Trimmed
 pub mod Cut
-pub mod Places
-pub mod Row
 use Rattle.std.specs.Prelude.{◌≡◌, ◌≢◌, Bool, ◌&&◌, cond, List, [], ◌∷◌, ◌++◌, map, ℕ, zero, suc, ◌+◌, ◌*◌, ◌-◌, ◌/◌, ◌%◌, ◌^◌, ◌≤◌, ◌<◌, eqb, ltb, ℤ, pos, negsuc, ◌-ℤ◌, neg_ℤ, nat_abs, drop, replicate}
 use Rattle.digits.specs.Integer.{half}
 use Rattle.digits.specs.Scalar.{bit_length}

@@ -1,5 +1,4 @@
 pub mod Down
 pub mod Call
-pub mod Promise
 pub mod Samples
 pub mod Body

@@ -1,2 +1,1 @@
--- Laws.
 pub mod Laws

@@ -1,66 +1,17 @@
--- What the C host can rely on: the parts that sheets.h takes out of the number that a call returns are the number of the question missed,
--- and the length and the weight, or the additions, of what was written, or the limit that pays and its additions, or the most digits that are
--- not 0, or the reader's line, whatever was asked. And that the rows of a joint call can always be packed.
-use Rattle.std.specs.Prelude.{◌≡◌, refl, ◌↔◌, List, ℕ, ◌-◌, ◌≤◌, length}
-use Rattle.std.proofs.Math.Path.{ap}
-use Rattle.std.proofs.Common.{ap₂, ◌∙◌, arith}
-use Rattle.digits.specs.Column.{row}
-use Rattle.digits.specs.Scalar.{Bytes, signed_scalar}
-use Rattle.digits.specs.Two.{Two, P, Q, of, two}
-use Rattle.forms.specs.Joint.{joint}
-use Rattle.forms.proofs.Laws.Joint.Value.{joint_small}
-use Rattle.digits.specs.declared.limits.Limits.{Limits}
+-- The parts that sheets.h takes out of the number that a call returns, for each answer.
+use Rattle.std.specs.Prelude.{◌≡◌}
 use Rattle.dearest.specs.Call as Dear
-use Rattle.dearest.specs.Call.{dearest_answer}
 use Rattle.dearest.specs.declared.answer.Dearest.{Dearest}
 use Rattle.packing.specs.Call as Packs
-use Rattle.packing.specs.Call.{pack_answer}
-use Rattle.packing.proofs.Laws.Promise.{rows_pack}
 use Rattle.packing.specs.declared.answer.Packing.{Packing}
-use Rattle.packing.specs.declared.answer.Packing.TheVariants.{NoRoom, BadColumn, Done}
 use Rattle.recode.specs.Call as Recoding
-use Rattle.codes.specs.Call.{codes_answer}
-use Rattle.down.specs.Call.{down_answer}
-use Rattle.recode.specs.Call.{row_answer, joint_answer, joint_buffer, left, filled}
-use Rattle.recode.specs.Call.Lent.{filled_long}
 use Rattle.recode.specs.declared.answer.Recoded.{Recoded}
-use Rattle.recode.specs.declared.answer.Recoded.TheVariants.{Written}
 use Rattle.writer.specs.Call as Writing
-use Rattle.writer.specs.Call.{j_answer, i_answer, i_down_answer}
 use Rattle.writer.specs.declared.answer.Sheet.{Sheet}
-use Rattle.chooser.specs.Call.{cheapest_answer}
 use Rattle.chooser.specs.Next as Choosing
-use Rattle.chooser.specs.Next.{next_answer}
 use Rattle.chooser.specs.declared.next.NextLimit.{NextLimit}
-use Rattle.chooser.specs.declared.next.NextLimit.TheVariants as nexts
-use Rattle.sheet.specs.Answer.{answer}
-use Rattle.reader.specs.Judgement.{judgement}
 use Rattle.reader.specs.declared.judge.Judgement.{Judgement}
-use Rattle.host.specs.Told.{
-  numbered,
-  joined,
-  Fits,
-  told_recoded,
-  RecodedFits,
-  told_sheet,
-  SheetFits,
-  told_next,
-  NextFits,
-  told_dearest,
-  number,
-  line,
-  told_judgement,
-  told_packing,
-  sheets_number,
-  sheets_length,
-  sheets_limit,
-  sheets_weight,
-  sheets_additions,
-  sheets_most,
-  sheets_line,
-}
-use Rattle.host.specs.Told.Lines.{line_within}
-use Rattle.host.specs.Told.Parts.{Tellable, row_fits, down_fits, joint_fits, codes_fits, j_fits, i_fits, i_down_fits, cheapest_fits, next_fits, Larger, next_larger, dearest_fits}
+use Rattle.host.specs.Told.{told_recoded, told_sheet, told_next, told_dearest, number, line, told_judgement, told_packing, sheets_number, sheets_length, sheets_limit, sheets_weight, sheets_additions, sheets_most, sheets_line}
 
 -- a row or a joint form
 pub record RecodedParts (r : Recoded) : Type 0 where
@@ -94,112 +45,3 @@ pub record JudgementParts (j : Judgement) : Type 0 where
 pub record PackingParts (p : Packing) : Type 0 where
   pub number_is : sheets_number (told_packing p) ≡ Packs.number p
   pub nothing_below : sheets_line (told_packing p) ≡ 0
-
--- what is put together comes out again
-module _ (n : ℕ) {length count : ℕ} (h : Fits length count) where
-  above : sheets_number (numbered n (joined length count)) ≡ n
-  above = omega (arith, h.length_fits, h.count_fits)
-
-  below : sheets_length (numbered n (joined length count)) ≡ length
-  below = omega (arith, h.length_fits, h.count_fits)
-
-  limit_below : sheets_limit (numbered n (joined length count)) ≡ length
-  limit_below = omega (arith, h.length_fits, h.count_fits)
-
-  between : sheets_weight (numbered n (joined length count)) ≡ count
-  between = omega (arith, h.length_fits, h.count_fits)
-
-recoded_parts : (r : Recoded) → RecodedFits r → RecodedParts r
-recoded_parts r h =
-    record { number_is = above (Recoding.number r) h; length_is = below (Recoding.number r) h; weight_is = between (Recoding.number r) h }
-
-sheet_parts : (s : Sheet) → SheetFits s → SheetParts s
-sheet_parts s h =
-    record { number_is = above (Writing.number s) h; length_is = below (Writing.number s) h; additions_are = between (Writing.number s) h }
-
-told_parts : (n : NextLimit) → NextFits n → NextParts n
-told_parts n h =
-    record { number_is = above (Choosing.next_number n) h; limit_is = limit_below (Choosing.next_number n) h; additions_are = between (Choosing.next_number n) h }
-
--- under the card's limits, and under the gateway's:
-module _ (limits : Limits) (tellable : Tellable limits) where
-  -- a row
-  pub row_parts : (s : List ℕ) (sign m places : ℕ) → Bytes s → RecodedParts (row_answer limits s sign m places)
-  row_parts s sign m places h = recoded_parts (row_answer limits s sign m places) (row_fits limits tellable s sign m places h)
-
-  -- a row from the top down
-  pub down_parts : (s : List ℕ) (sign m places : ℕ) → Bytes s → RecodedParts (down_answer limits s sign m places)
-  down_parts s sign m places h = recoded_parts (down_answer limits s sign m places) (down_fits limits tellable s sign m places h)
-
-  -- a joint form
-  pub joint_parts : (k : List ℕ) (k_sign : ℕ) (l : List ℕ) (l_sign : ℕ) (places places' : ℕ) → Bytes k → Bytes l → RecodedParts (joint_answer limits k k_sign l l_sign places places')
-  joint_parts k k_sign l l_sign places places' h g = recoded_parts (joint_answer limits k k_sign l l_sign places places') (joint_fits limits tellable k k_sign l l_sign places places' h g)
-
-  -- with its codes
-  pub codes_parts : (k : List ℕ) (k_sign : ℕ) (l : List ℕ) (l_sign : ℕ) (places places' room room' : ℕ) → Bytes k → Bytes l → RecodedParts (codes_answer limits k k_sign l l_sign places places' room room')
-  codes_parts k k_sign l l_sign places places' room room' h g =
-      recoded_parts (codes_answer limits k k_sign l l_sign places places' room room') (codes_fits limits tellable k k_sign l l_sign places places' room room' h g)
-
-  module _ (k : List ℕ) (k_sign : ℕ) (l : List ℕ) (l_sign : ℕ) (k_bytes : Bytes k) (l_bytes : Bytes l) where
-    -- the sheet of plan J
-    pub j_parts : (room : ℕ) → SheetParts (j_answer limits k k_sign l l_sign room)
-    j_parts room = sheet_parts (j_answer limits k k_sign l l_sign room) (j_fits limits tellable k k_sign l l_sign k_bytes l_bytes room)
-
-    -- of plan I
-    pub i_parts : (m1 m2 room : ℕ) → SheetParts (i_answer limits k k_sign l l_sign m1 m2 room)
-    i_parts m1 m2 room = sheet_parts (i_answer limits k k_sign l l_sign m1 m2 room) (i_fits limits tellable k k_sign l l_sign k_bytes l_bytes m1 m2 room)
-
-    -- of plan I, from rows from the top down
-    pub i_down_parts : (m1 m2 room : ℕ) → SheetParts (i_down_answer limits k k_sign l l_sign m1 m2 room)
-    i_down_parts m1 m2 room = sheet_parts (i_down_answer limits k k_sign l l_sign m1 m2 room) (i_down_fits limits tellable k k_sign l l_sign k_bytes l_bytes m1 m2 room)
-
-    -- the cheapest
-    pub cheapest_parts : (limit room : ℕ) → SheetParts (cheapest_answer limits k k_sign l l_sign limit room)
-    cheapest_parts limit room = sheet_parts (cheapest_answer limits k k_sign l l_sign limit room) (cheapest_fits limits tellable k k_sign l l_sign k_bytes l_bytes limit room)
-
-    -- the next limit
-    pub next_parts : (limit : ℕ) → NextParts (next_answer limits k k_sign l l_sign limit)
-    next_parts limit = told_parts (next_answer limits k k_sign l l_sign limit) (next_fits limits tellable k k_sign l l_sign k_bytes l_bytes limit)
-
-  -- a sheet that is read
-  pub read_parts : (s : List ℕ) → JudgementParts (judgement (answer limits s))
-  read_parts s = record { number_is = omega (arith, tellable.sheet, line_within limits s); line_is = omega (arith, tellable.sheet, line_within limits s) }
-
--- the next limit is told as 0 exactly where none pays
-pub next_none : (limits : Limits) (k : List ℕ) (k_sign : ℕ) (l : List ℕ) (l_sign limit : ℕ)
-    → (told_next (next_answer limits k k_sign l l_sign limit) ≡ 0) ↔ (next_answer limits k k_sign l l_sign limit ≡ nexts.None)
-next_none limits k k_sign l l_sign limit = (zero (next_answer limits k k_sign l l_sign limit) (next_larger limits k k_sign l l_sign limit), λ e. ap told_next e)
-  where
-    zero : (n : NextLimit) → Larger n → told_next n ≡ 0 → n ≡ nexts.None
-    zero nexts.BadScalar h e = absurd (omega arith)
-    zero nexts.BadLimit h e = absurd (omega arith)
-    zero (nexts.Pays n a) h e = absurd (omega arith)
-    zero nexts.None h e = refl
-
--- the dearest scalar, whatever the size and the room
-pub dearest_parts : (size room : ℕ) → DearestParts (dearest_answer size room)
-dearest_parts size room =
-    let fits = dearest_fits size room in record { number_is = omega (arith, fits); most_is = omega (arith, fits) }
-
--- columns packed or unpacked
-pub packing_parts : (p : Packing) → PackingParts p
-packing_parts NoRoom = record { number_is = refl; nothing_below = refl }
-packing_parts BadColumn = record { number_is = refl; nothing_below = refl }
-packing_parts Done = record { number_is = refl; nothing_below = refl }
-
--- ── the rows of a joint call can always be packed ───────────────────────────────────────────
-
-module _ (limits : Limits) (k : List ℕ) (k_sign : ℕ) (l : List ℕ) (l_sign : ℕ) (k_digits l_digits : List ℕ) (length_is weight_is : ℕ)
-    (written : joint_answer limits k k_sign l l_sign (length k_digits) (length l_digits) ≡ Written length_is weight_is) where
-  stands : (r : Two) → joint_buffer limits r k k_sign l l_sign k_digits l_digits ≡ filled (row two r (joint (signed_scalar k k_sign) (signed_scalar l l_sign))) (of k_digits l_digits r)
-  unfolding joint_buffer
-  stands r = ap (λ (a : Recoded). left a (row two r (joint (signed_scalar k k_sign) (signed_scalar l l_sign))) (of k_digits l_digits r)) written
-
-  -- as many columns as both rows and the buffer have places, also beyond those that were written
-  pub joint_packs : (n : ℕ) (packed : List ℕ) → n ≤ length k_digits → n ≤ length l_digits → n ≤ length packed
-      → pack_answer n (joint_buffer limits P k k_sign l l_sign k_digits l_digits) (joint_buffer limits Q k k_sign l l_sign k_digits l_digits) (length packed) ≡ Done
-  joint_packs n packed h g f =
-      let cs = joint (signed_scalar k k_sign) (signed_scalar l l_sign) in
-      ap₂ (λ (p q : List ℕ). pack_answer n p q (length packed)) (stands P) (stands Q)
-      ∙ rows_pack cs (length k_digits - length (row two P cs)) (length l_digits - length (row two Q cs)) n packed (joint_small (signed_scalar k k_sign) (signed_scalar l l_sign))
-      (filled_long (row two P cs) k_digits n h) (filled_long (row two Q cs) l_digits n g) f

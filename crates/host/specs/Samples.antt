@@ -1,7 +1,6 @@
 -- What some answers are told as, and what sheets.h takes from one number, bit by bit: which bits hold what. One table, by one computed test.
-use Rattle.std.specs.Prelude.{◌≡◌, ℕ, T}
-use mathlib.Core.List.{List, [], ◌∷◌, Memᴰ}
-use Rattle.forms.specs.Test.{Test, equal, every_of}
+use Rattle.std.specs.Prelude.{◌≡◌, ℕ}
+use mathlib.Core.List.{List, [], ◌∷◌}
 use Rattle.chooser.specs.declared.next.NextLimit.TheVariants as next
 use Rattle.dearest.specs.declared.answer.Dearest.TheVariants as dearest
 use Rattle.packing.specs.declared.answer.Packing.TheVariants as packing
@@ -56,14 +55,3 @@ samples =
     ∷ is (sheets_most 9920249032579756560) 1985229328
     ∷ is (sheets_line 9920249032579756560) 1985229328
     ∷ []
-
--- the test of a sample
-abbrev sample : (s : Sample) → Test (Says s)
-sample (is number value) = equal number value
-
-table : T (every_of sample samples).test
-table = tt
-
--- each sample of the table is true
-pub samples_hold : (s : Sample) → Memᴰ s samples → Says s
-samples_hold = (every_of sample samples).tells table

@@ -2,3 +2,4 @@ pub mod Lines
 pub mod Hexadecimal
 pub mod Orders
 pub mod Printed
+pub mod Laws

@@ -25,7 +25,7 @@ use Rattle.sheet.specs.Numeral.Figures.{numeral_low}
 use Rattle.chooser.specs.Call.{cheapest_answer, cheapest_buffer}
 use Rattle.chooser.specs.Cheapest.{cheapest_plan, cheapest}
 use Rattle.order.proofs.Orders.{Ordered}
-use Rattle.order.specs.Order.Demand.{order_kept}
+use Rattle.order.proofs.Laws.Order.Demand.{order_kept}
 use Rattle.order.specs.Order.{Order, line_of, read_fields, read_order, refusal, served, answered, printed, Prints, order_length, order_buffer, OrderPromised}
 
 numeral_one : (n : ℕ) → n < 10 → numeral 10 n ≡ (48 + n) ∷ []

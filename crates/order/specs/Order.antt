@@ -1,6 +1,5 @@
 -- The order program's line, as 01 words it, and what the program prints for it.
 pub mod Longest
-pub mod Demand
 use Rattle.std.specs.Prelude.{◌≡◌, ◌↔◌, true, false, cond, List, [], ◌∷◌, ◌++◌, ℕ, eqb, ℤ, length, get_or, take, drop}
 use Rattle.std.proofs.Math.Option.{Option, none, some}
 use Rattle.digits.specs.declared.limits.Limits.{Limits}

@@ -10,3 +10,4 @@ pub mod RowTurns
 pub mod RowLoop
 pub mod JointTurns
 pub mod JointLoop
+pub mod Laws

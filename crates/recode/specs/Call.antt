@@ -1,6 +1,5 @@
 -- What the row and joint calls answer and leave in the buffers they are lent, for all input; and what they promise of the digits
 -- that stand there.
-pub mod Standing
 pub mod Short
 pub mod Row
 pub mod Joint

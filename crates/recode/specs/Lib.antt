@@ -1,3 +1,2 @@
 pub mod Call
-pub mod Promise
 pub mod Body

@@ -75,8 +75,8 @@ module _ (base most : ℕ) (low : 2 ≤ base) (high : base ≤ 16) where
   first_zero (c ∷ []) e f = omega (arith, ap worth f)
   first_zero (c ∷ d ∷ s) e f = absurd (eqb-false c 48 (numeral_parts base most (c ∷ d ∷ s) e).unpadded f)
 
-  zero_first : (s : List ℕ) → is_numeral base most s ≡ true → followed base 0 s ≡ 0 → get_or s 0 0 ≡ 48
-  zero_first s e f =
+  zero_first_lem : (s : List ℕ) → is_numeral base most s ≡ true → followed base 0 s ≡ 0 → get_or s 0 0 ≡ 48
+  zero_first_lem s e f =
       let n : number base most s ≡ some 0 = numeral_value base most s true e ∙ ap some f in
       ap (λ (x : List ℕ). get_or x 0 0) (sym (numeral_number base low high most 0 s n) ∙ numeral_low base low 0 (omega arith))
 
@@ -96,7 +96,7 @@ module _ (base most : ℕ) (low : 2 ≤ base) (high : base ≤ 16) where
           → negative (number base most s) ≡ cond (b && not (eqb (get_or s 0 0) 48)) (some (signed_by 1 (pos (followed base 0 s)))) none
       go true e =
           ap negative (numeral_value base most s true e)
-          ∙ some_number (followed base 0 s) (eqb (get_or s 0 0) 48) refl (first_zero s e) (zero_first s e)
+          ∙ some_number (followed base 0 s) (eqb (get_or s 0 0) 48) refl (first_zero s e) (zero_first_lem s e)
       go false e = ap negative (numeral_value base most s false e)
 
   plain_value : (s : List ℕ) → plain (number base most s) ≡ cond (is_numeral base most s && true) (some (pos (followed base 0 s))) none

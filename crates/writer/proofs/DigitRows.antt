@@ -37,7 +37,7 @@ use Rattle.written.specs.Written.{digits, sheet_of}
 use Rattle.written.specs.Written.Columns.{paired_weight}
 use Rattle.writer.specs.declared.rows.Rows.{Rows}
 use Rattle.writer.specs.Rows.{row_by}
-use Rattle.writer.specs.Rows.Made.{rows_kept}
+use Rattle.writer.proofs.Laws.Rows.Made.{rows_kept}
 use Rattle.writer.specs.declared.answer.Sheet.{Sheet}
 use Rattle.writer.specs.Body.Parts.{Bounded, Ready}
 use Rattle.writer.specs.Call as Writing

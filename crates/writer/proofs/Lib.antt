@@ -10,3 +10,4 @@ pub mod SheetBytes
 pub mod Signs
 pub mod DigitRows
 pub mod PlanAnswers
+pub mod Laws

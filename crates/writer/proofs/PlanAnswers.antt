@@ -25,7 +25,7 @@ use Rattle.writer.specs.declared.answer.Sheet.{Sheet}
 use Rattle.writer.specs.declared.answer.Sheet.TheVariants.{BadScalar, BadWindow, NoRoom}
 use Rattle.writer.specs.Body.Parts.{Served}
 use Rattle.writer.specs.Call.{number, wrote_columns, wrote, left, SheetPromised, j_question, j_answer, j_buffer, i_question, columns_answer, columns_buffer}
-use Rattle.writer.specs.Call.Kept.{j_promised, columns_promised, j_question_lem, columns_question}
+use Rattle.writer.proofs.Laws.Call.Kept.{j_promised, columns_promised, j_question_lem, columns_question}
 
 -- the limits that the calls are given, with rows of a place more than the bits
 pub card_served : Served card 529 529

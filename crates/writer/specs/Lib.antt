@@ -1,5 +1,4 @@
 -- The calls for a written sheet: the definitions stand first, what is shown of them behind them.
 pub mod Rows
 pub mod Call
-pub mod Promise
 pub mod Body

@@ -6,7 +6,7 @@ use Rattle.sheet.specs.declared.Plan.TheVariants.{J, I}
 use Rattle.sheet.specs.Plan.{odds, slots}
 use Rattle.chooser.specs.Candidate.{key_of}
 use Rattle.chooser.specs.Cheapest.{interleaved, plans, within}
-use Rattle.chooser.specs.Cheapest.Lists.{within_in}
+use Rattle.chooser.proofs.Laws.Cheapest.Lists.{within_in}
 use Rattle.chooser.specs.Lexicographic.{before, least}
 use Rattle.chooser.specs.Lexicographic.Order.{least_one, least_ordered}
 use Rattle.changes.specs.Changed.{old_key, old_plan}

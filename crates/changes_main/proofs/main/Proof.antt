@@ -3,7 +3,7 @@ use mathlib.Core.Path.{sym}
 use Prim.Native.Nat.{◌≤◌}
 use lib.ListN.{length}
 use lib.Seq.{length-take-le}
-use Rattle.changes.specs.Promise.{changes_fit}
+use Rattle.changes.proofs.Laws.Promise.{changes_fit}
 use borrow.Author.Rules.{rules}
 use Rattle.changes_main.proofs.main.Statement.{statement}
 use Rattle.changes_main.proofs.main.Tie as tie

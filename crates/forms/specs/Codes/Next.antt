@@ -1,4 +1,4 @@
--- What the laws of proofs/Laws/Codes/Next.antt speak of.
+-- The code by a row's digit and its next one.
 use Rattle.std.specs.Prelude.{cond, ℕ, ℤ}
 use Rattle.digits.specs.Two.{is_zero}
 

@@ -1,4 +1,4 @@
--- What the laws of proofs/Laws/Joint/Digit.antt speak of.
+-- Numbers that are alike but for a multiple, and a number as its digit and twice what is left.
 use Rattle.std.specs.Prelude.{◌≡◌, ℕ, ◌+◌, ◌*◌, ℤ}
 use Rattle.digits.specs.Integer.{up, down}
 

@@ -1,4 +1,4 @@
--- What the laws of proofs/Laws/Joint/Rule.antt speak of.
+-- The columns of the joint sparse form as a rule.
 use Rattle.std.specs.Prelude.{◌≡◌, List, [], ◌∷◌, ℤ, pos, ◌+ℤ◌}
 use Rattle.digits.specs.Two.{Column}
 use Rattle.forms.specs.Joint.{digit, column}

@@ -11,12 +11,13 @@ use Rattle.digits.proofs.Laws.Scalar.Signed.{signed_bounded}
 use Rattle.digits.specs.Scalar.Sized.{both}
 use Rattle.digits.specs.Two.{Column}
 use Rattle.recode.specs.Call.{row_answer, joint_answer}
-use Rattle.recode.specs.Call.Short.{Short, row_short, joint_short}
+use Rattle.recode.specs.Call.Short.{Short}
+use Rattle.recode.proofs.Laws.Call.Short.{row_short, joint_short}
 use Rattle.recode.specs.declared.answer.Recoded.{Recoded}
 use Rattle.codes.specs.Call.{codes_answer}
 use Rattle.down.specs.Call.{down_answer}
-use Rattle.down.specs.Call.Row.{down_short}
-use Rattle.codes.specs.Call.Short.{codes_short}
+use Rattle.down.proofs.Laws.Call.Row.{down_short}
+use Rattle.codes.proofs.Laws.Call.Short.{codes_short}
 use Rattle.sheet.specs.Plan.{is_limit}
 use Rattle.sheet.specs.declared.Plan.{Plan}
 use Rattle.sheet.specs.declared.Plan.TheVariants.{J, I}
@@ -30,21 +31,21 @@ use Rattle.writer.specs.Call as Writing
 use Rattle.writer.specs.Call.{wrote_columns, j_answer, columns_answer, i_answer, i_down_answer}
 use Rattle.writer.specs.Call.Met.{windows_valid}
 use Rattle.writer.specs.Rows.{columns_by}
-use Rattle.writer.specs.Rows.Made.{columns_make}
+use Rattle.writer.proofs.Laws.Rows.Made.{columns_make}
 use Rattle.writer.specs.declared.rows.Rows.TheVariants.{Down}
 use Rattle.writer.specs.declared.answer.Sheet.{Sheet}
 use Rattle.writer.specs.declared.answer.Sheet.TheVariants.{BadScalar, BadWindow, NoRoom, BadLimit}
 use Rattle.chooser.specs.Call.{cheapest_answer}
 use Rattle.chooser.specs.Cheapest.{cheapest_plan}
-use Rattle.chooser.specs.Cheapest.Least.{plan_within}
+use Rattle.chooser.proofs.Laws.Cheapest.Least.{plan_within}
 use Rattle.chooser.specs.Next.{fewest, Next, pays, none, next_limit, next_answer}
-use Rattle.chooser.specs.Next.First.{next_meets}
+use Rattle.chooser.proofs.Laws.Next.First.{next_meets}
 use Rattle.chooser.specs.declared.next.NextLimit.{NextLimit}
 use Rattle.chooser.specs.declared.next.NextLimit.TheVariants as nexts
 use Rattle.dearest.specs.Call.{most_told, is_size, is_room, dearest_answer}
-use Rattle.dearest.specs.Call.Returned.{size_is}
+use Rattle.dearest.proofs.Laws.Call.Returned.{size_is}
 use Rattle.dearest.specs.Dearest.{most}
-use Rattle.dearest.specs.Promise.{most_closed}
+use Rattle.dearest.proofs.Laws.Promise.{most_closed}
 use Rattle.dearest.specs.declared.answer.Dearest.{Dearest}
 use Rattle.dearest.specs.declared.answer.Dearest.TheVariants as dearest
 use Rattle.host.specs.Told.{RecodedFits, SheetFits, NextFits}

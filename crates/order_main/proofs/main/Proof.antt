@@ -3,7 +3,7 @@ use mathlib.Core.Path.{sym}
 use Prim.Native.Nat.{◌≤◌}
 use lib.ListN.{length}
 use lib.Seq.{length-take-le}
-use Rattle.order.specs.Promise.{order_fits}
+use Rattle.order.proofs.Laws.Promise.{order_fits}
 use borrow.Author.Rules.{rules}
 use Rattle.order_main.proofs.main.Statement.{statement}
 use Rattle.order_main.proofs.main.Tie as tie

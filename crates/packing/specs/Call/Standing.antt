@@ -1,4 +1,4 @@
--- What the laws of proofs/Laws/Call/Standing.antt speak of.
+-- The room that a call asks for.
 use Rattle.std.specs.Prelude.{ℕ, ◌≤◌}
 
 -- ── what stands where no question is missed ─────────────────────────────────────────────────

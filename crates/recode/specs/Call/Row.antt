@@ -1,17 +1,11 @@
--- What a row call returns and leaves, by the first question missed, and where all are met: for every row that keeps what is promised, as
--- 01's does.
-use Rattle.std.specs.Prelude.{◌≡◌, refl, true, false, List, ℕ, ◌+◌, ◌*◌, ◌≤◌, ◌<◌, ℤ}
-use Rattle.std.proofs.Math.Path.{subst}
-use borrow.Author.Tests.{le-leb, lt-leb}
+-- All clauses of a call for a row.
+use Rattle.std.specs.Prelude.{◌≡◌, List, ℕ, ℤ}
 use Rattle.std.proofs.Math.ListN.{length}
 use Rattle.digits.specs.declared.limits.Limits.{Limits}
-use Rattle.digits.specs.Row.{is_window, weight}
-use Rattle.digits.specs.Scalar.{signed_scalar, sized}
+use Rattle.digits.specs.Scalar.{signed_scalar}
 use Rattle.forms.specs.Row.{RowRule, row}
 use Rattle.recode.specs.declared.answer.Recoded.{Recoded}
-use Rattle.recode.specs.declared.answer.Recoded.TheVariants.{BadScalar, BadWindow, NoRoom}
-use Rattle.recode.specs.Call.{number, wrote_row, row_question, answer_with, buffer_with, RowBy, PromisedBy, left, filled}
-use Rattle.recode.specs.Call.Standing.{row_question_lem, row_promised}
+use Rattle.recode.specs.Call.{number, row_question, answer_with, buffer_with, PromisedBy}
 
 -- the contract of a call whose answer is a and that leaves `out`
 abbrev pub ReturnedBy : (List ℤ → Type 0) → ℤ → List ℤ → Limits → List ℕ → ℕ → List ℕ → Recoded → List ℕ → Type 0
@@ -23,29 +17,3 @@ ReturnedBy R c ds limits s m buffer a out =
 abbrev pub Returned : Limits → List ℕ → ℕ → ℕ → List ℕ → Recoded → List ℕ → Type 0
 Returned limits s sign m buffer a out =
     let c = signed_scalar s sign in ReturnedBy (RowRule m c) c (row m c) limits s m buffer a out
-
-module _ {R : List ℤ → Type 0} {m : ℕ} {c : ℤ} {ds : List ℤ} (kept : is_window m ≡ true → RowBy R m c (weight ds) ds) (limits : Limits) (s buffer : List ℕ) where
-  returned : (a : Recoded) → answer_with limits s m ds (length buffer) ≡ a → ReturnedBy R c ds limits s m buffer a (left a ds buffer)
-  unfolding buffer_with
-  returned a e =
-      subst (λ (x : Recoded). ReturnedBy R c ds limits s m buffer x (left x ds buffer)) e
-      (refl, (refl, (row_promised kept limits s buffer, row_question_lem limits s m ds (length buffer))))
-
-  pub bad_scalar : sized limits s ≡ false → ReturnedBy R c ds limits s m buffer BadScalar buffer
-  unfolding answer_with
-  bad_scalar e = returned BadScalar (rw e)
-
-  module _ (size : sized limits s ≡ true) where
-    pub bad_window : is_window m ≡ false → ReturnedBy R c ds limits s m buffer BadWindow buffer
-    unfolding answer_with
-    bad_window e = returned BadWindow (rw (size, e))
-
-    module _ (window : is_window m ≡ true) where
-      pub no_room : length buffer < 8 * length s + 1 → ReturnedBy R c ds limits s m buffer NoRoom buffer
-      unfolding answer_with
-      no_room h = returned NoRoom (rw (size, window, lt-leb (8 * length s + 1) (length buffer) h))
-
-      pub written : (a : Recoded) (out : List ℕ) → 8 * length s + 1 ≤ length buffer → a ≡ wrote_row ds → out ≡ filled ds buffer → ReturnedBy R c ds limits s m buffer a out
-      unfolding answer_with
-      written a out h e f =
-          rw (e, f) (returned (wrote_row ds) (rw (size, window, le-leb (8 * length s + 1) (length buffer) h)))

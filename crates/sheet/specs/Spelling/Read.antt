@@ -1,9 +1,7 @@
--- What the laws of proofs/Laws/Spelling/Read.antt speak of.
+-- A header made of the fields that were read, and a line that is not misspelled.
 use Rattle.std.specs.Prelude.{◌≡◌, ◌≢◌, ℕ, ℤ}
 use Rattle.std.proofs.Math.Option.{Option, some}
 use Rattle.sheet.specs.Line.{Kind, Header, Line, misspelled}
-
--- ── fields ──────────────────────────────────────────────────────────────────────────────────
 
 -- ── lines ───────────────────────────────────────────────────────────────────────────────────
 

@@ -1,4 +1,4 @@
--- What the laws of proofs/Laws/Spelling/Spelled.antt speak of.
+-- Points, headers and lines whose numbers are short enough for their spelling.
 use Rattle.std.specs.Prelude.{◌^◌, ◌<◌, nat_abs}
 use Rattle.digits.specs.declared.limits.Limits.{Limits}
 use Rattle.sheet.specs.Plan.{Point}

@@ -1,4 +1,4 @@
--- What the laws of proofs/Laws/Written/Stepping.antt speak of.
+-- The steps of a place and of columns, in turn.
 use Rattle.std.specs.Prelude.{◌≡◌, ℕ, ◌*◌, ◌-◌, ◌≤◌, ◌<◌, nat_abs}
 use mathlib.Core.List.{List, [], ◌∷◌, ◌++◌}
 use Rattle.std.proofs.Math.ListN.{length}
@@ -34,8 +34,6 @@ pub record Place (p : Plan) (c : Column) (ts : List Point) : Type 0 where
   pub sums : sum_from blank_column ts ≡ c
   pub turns : InTurn p 0 ts
   pub few : length ts ≤ 2
-
--- ── the moves below the top ─────────────────────────────────────────────────────────────────
 
 -- ── all steps ───────────────────────────────────────────────────────────────────────────────
 

@@ -4,7 +4,7 @@ use Prim.Native.Nat.{◌≤◌}
 use native.Mathlib.Omega.{arith}
 use Rattle.sheet.specs.declared.Plan.{Plan}
 use Rattle.sheet.specs.Plan.{slots}
-use Rattle.chooser.specs.Cheapest.Least.{plan_within}
+use Rattle.chooser.proofs.Laws.Cheapest.Least.{plan_within}
 use Rattle.changes.specs.Body.{order_at}
 use Rattle.changes.specs.Changed.Old.{old_within}
 use Rattle.changes.proofs.Lines.{one_figure}

@@ -7,7 +7,8 @@ use lib.ListN.{length}
 use Rattle.digits.specs.Limits.{gateway}
 use Rattle.digits.specs.Scalar.{sized}
 use Rattle.digits.specs.Scalar.Sized.{both, both_sized, sized_wider}
-use Rattle.codes.specs.Call.Returned.{rooms, bad_scalar, no_room, written}
+use Rattle.codes.specs.Call.Returned.{rooms}
+use Rattle.codes.proofs.Laws.Call.Returned.{bad_scalar, no_room, written}
 use Rattle.codes.proofs.call.joint_codes_within.Goals.{After-are_roomy-codes, Then-are_scalars}
 use Rattle.codes.proofs.call.joint_codes_within.Goals as goal
 

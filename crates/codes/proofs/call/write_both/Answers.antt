@@ -6,7 +6,8 @@ use Rattle.digits.specs.Scalar.{Bytes, signed_scalar}
 use Rattle.digits.specs.Two.{P, Q}
 use Rattle.forms.specs.Joint.{joint}
 use Rattle.recode.specs.Call.{wrote_columns, filled}
-use Rattle.recode.specs.Call.Joint.{digits_of, Returned, written}
+use Rattle.recode.specs.Call.Joint.{digits_of}
+use Rattle.recode.proofs.Laws.Call.Joint.{Returned, written}
 use Rattle.codes.proofs.Coded.{asks, leaves}
 use Rattle.codes.proofs.call.write_both.Goals.{After-gateway_joint-answer}
 use Rattle.codes.proofs.call.write_both.Goals as goal

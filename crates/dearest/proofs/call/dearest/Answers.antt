@@ -7,8 +7,8 @@ use lib.ListN.{length}
 use Rattle.digits.specs.Limits.{card, bits}
 use Rattle.dearest.specs.Bytes.{in_bytes}
 use Rattle.dearest.specs.Call.{is_size, is_room}
-use Rattle.dearest.specs.Call.Returned.{size_is, bad_size, bad_room, found}
-use Rattle.dearest.specs.Dearest.Closed.{dearest_pairs, most_closed}
+use Rattle.dearest.proofs.Laws.Call.Returned.{size_is, bad_size, bad_room, found}
+use Rattle.dearest.proofs.Laws.Dearest.Closed.{dearest_pairs, most_closed}
 use Rattle.dearest.proofs.call.dearest.Goals.{Then-is_room}
 use Rattle.dearest.proofs.call.dearest.Goals as goal
 

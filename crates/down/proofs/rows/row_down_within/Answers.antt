@@ -10,8 +10,8 @@ use Rattle.digits.specs.Row.{is_window}
 use Rattle.digits.specs.Row.Window.{window_parts}
 use Rattle.digits.specs.Scalar.{signed_scalar, sized}
 use Rattle.digits.specs.Scalar.Sized.{some_bytes}
-use Rattle.recode.specs.Call.Row.{bad_scalar, bad_window, no_room, written}
-use Rattle.down.specs.Call.Row.{down_kept}
+use Rattle.recode.proofs.Laws.Call.Row.{bad_scalar, bad_window, no_room, written}
+use Rattle.down.proofs.Laws.Call.Row.{down_kept}
 use Rattle.down.proofs.rows.row_down_within.Goals.{Then-is_scalar, Then-is_window}
 use Rattle.down.proofs.rows.row_down_within.Goals as goal
 

@@ -16,7 +16,7 @@ use Rattle.recode.specs.Call.{filled}
 use Rattle.recode.specs.Call.Lent.{first_length, first_cleared, first_filled}
 use Rattle.down.specs.Body.Length.{UpTo}
 use Rattle.down.specs.Down.{natural, down}
-use Rattle.down.specs.Down.Row.{down_signed, down_length, down_digits, down_top}
+use Rattle.down.proofs.Laws.Down.Row.{down_signed, down_length, down_digits, down_top}
 use borrow.Author.Rules.{rules}
 use Rattle.down.proofs.UsedBytes.{bytes_from, used_most, used_length, used_value, filled_up_to}
 use Rattle.down.proofs.rows.write_row.Goals.{After-bits_of-below, After-length_of, After-slice_known-2-1, After-slice_known-3-1, After-struct_known-1}

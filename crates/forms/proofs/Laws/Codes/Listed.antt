@@ -12,7 +12,7 @@ use Rattle.digits.specs.Two.{Two, other, two}
 use Rattle.forms.specs.Codes.{Held, digit_by, digits, remainder_at, code_at, below, codes}
 use Rattle.forms.specs.Codes.Next.{by_next}
 use Rattle.forms.proofs.Laws.Codes.Next.{codes_next}
-use Rattle.forms.proofs.Laws.Codes.Place.{digit_at}
+use Rattle.forms.proofs.Laws.Codes.Place.{digit_at_lem}
 use Rattle.forms.specs.Codes.Rule.{digit_by_lem, code_held}
 use Rattle.forms.specs.Joint.{joint}
 
@@ -53,7 +53,7 @@ module _ (k l : ℤ) (r : Two) where
   -- at every place the digit follows from its code and the remainder
   pub codes_digits_lem : (i : ℕ) → get_or (digits k l r) i (pos 0) ≡ digit_by (get_or (codes k l r) i 0) (remainder_at k l r i)
   codes_digits_lem i =
-      digit_at k l i r
+      digit_at_lem k l i r
       ∙ digit_by_lem (remainder_at k l r i) (remainder_at k l (other r) i)
       ∙ ap (λ (n : ℕ). digit_by n (remainder_at k l r i)) (sym (code_at_lem i))
 

@@ -6,7 +6,7 @@ use Rattle.digits.specs.Integer.{rem, half}
 use Rattle.digits.specs.Integer.Parts.{rem_lt}
 use Rattle.digits.specs.Two.{Two, other, is_zero}
 use Rattle.forms.specs.Codes.{code, digits, remainder_at, code_at}
-use Rattle.forms.proofs.Laws.Codes.Place.{digit_at, digit_after}
+use Rattle.forms.proofs.Laws.Codes.Place.{digit_at_lem, digit_after}
 use Rattle.forms.specs.Joint.{digit, rest}
 use Rattle.forms.proofs.Laws.Joint.Digit.{rem_two, rem_four, rem_eight, digit_rem, digit_fits, rest_rem}
 use Rattle.forms.specs.Residue.{residue}
@@ -45,4 +45,4 @@ code_next c o =
 
 -- at every place of a joint form
 pub codes_next : (k l : ℤ) (r : Two) (i : ℕ) → code_at k l r i ≡ by_next (get_or (digits k l r) i (pos 0)) (get_or (digits k l r) (suc i) (pos 0))
-codes_next k l r i = code_next (remainder_at k l r i) (remainder_at k l (other r) i) ∙ ap₂ by_next (sym (digit_at k l i r)) (sym (digit_after k l i r))
+codes_next k l r i = code_next (remainder_at k l r i) (remainder_at k l (other r) i) ∙ ap₂ by_next (sym (digit_at_lem k l i r)) (sym (digit_after k l i r))

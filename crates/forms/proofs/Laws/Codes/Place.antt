@@ -139,9 +139,9 @@ module _ (k l : ℤ) (i : ℕ) where
       ap (λ (j : ℕ). get_or (digits k l r) j (pos 0)) (omega arith) ∙ digits_from r 1 ∙ others z w r 0 ∙ first (rest z w) (rest w z) r
 
   -- the digit at a place is that of the remainders there
-  pub digit_at : (r : Two) → get_or (digits k l r) i (pos 0) ≡ digit (remainder_at k l r i) (remainder_at k l (other r) i)
-  digit_at P = here P
-  digit_at Q = here Q
+  pub digit_at_lem : (r : Two) → get_or (digits k l r) i (pos 0) ≡ digit (remainder_at k l r i) (remainder_at k l (other r) i)
+  digit_at_lem P = here P
+  digit_at_lem Q = here Q
 
   -- and the next one that of what they leave
   pub digit_after : (r : Two) → get_or (digits k l r) (suc i) (pos 0)

@@ -57,6 +57,8 @@ pub unpack_question_lem : (n : ℕ) (packed : List ℕ) (places places' : ℕ) �
 unfolding unpack_answer
 unpack_question_lem n packed places places' = three (leb n places) (leb n places') (leb n (length packed)) (all_store TwoDigits (take n packed))
 
+-- ── what stands where no question is missed ─────────────────────────────────────────────────
+
 pub rooms : (n places places' room : ℕ) → roomy n places places' room ≡ true → Rooms n places places' room
 rooms n places places' room e =
     let (rows, third) = (and-eq-true_iff (leb n places && leb n places') (leb n room)).0 e in

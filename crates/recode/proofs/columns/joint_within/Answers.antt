@@ -9,7 +9,7 @@ use lib.ListN.{length}
 use Rattle.digits.specs.Limits.{gateway}
 use Rattle.digits.specs.Scalar.{sized}
 use Rattle.digits.specs.Scalar.Sized.{both, some_bytes}
-use Rattle.recode.specs.Call.Joint.{bad_scalar, no_first, no_second, written}
+use Rattle.recode.proofs.Laws.Call.Joint.{bad_scalar, no_first, no_second, written}
 use Rattle.recode.proofs.columns.joint_within.Goals.{Else-k_digits-room, Else-l_digits-room, Then-are_scalars}
 use Rattle.recode.proofs.columns.joint_within.Goals as goal
 

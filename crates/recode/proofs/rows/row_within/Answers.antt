@@ -10,8 +10,8 @@ use Rattle.digits.specs.Row.{is_window}
 use Rattle.digits.specs.Row.Window.{window_parts}
 use Rattle.digits.specs.Scalar.{signed_scalar, sized}
 use Rattle.digits.specs.Scalar.Sized.{some_bytes}
-use Rattle.recode.specs.Call.Row.{bad_scalar, bad_window, no_room, written}
-use Rattle.recode.specs.Call.Standing.{row_kept}
+use Rattle.recode.proofs.Laws.Call.Row.{bad_scalar, bad_window, no_room, written}
+use Rattle.recode.proofs.Laws.Call.Standing.{row_kept}
 use Rattle.recode.proofs.rows.row_within.Goals.{Then-is_scalar, Then-is_window}
 use Rattle.recode.proofs.rows.row_within.Goals as goal
 

@@ -19,6 +19,8 @@ use Rattle.sheet.specs.Sound.{Moves, stop, doubled, added, Steps, nothing, loade
 use Rattle.sheet.proofs.Laws.Answer.Exactly.{accepted_exactly}
 use Rattle.sheet.specs.Spelling.Read.{HeaderMade, Spelled}
 
+-- ── fields ──────────────────────────────────────────────────────────────────────────────────
+
 decimal_read : (most n : ℕ) (s : List ℕ) → number 10 most s ≡ some n → numeral 10 n ≡ s
 decimal_read most n s e = numeral_number 10 (omega arith) (omega arith) most n s e
 
@@ -48,6 +50,8 @@ kind_read s k e = go_j (eqb (letter s) (code "J")) refl e
         let g : joint ≡ k = cc in
         ap kind (sym g) ∙ sym (letter_of s (code "J") (omega arith) (eqb-true (letter s) (code "J") t))
     go_j false t f = go_i (eqb (letter s) (code "I")) refl f
+
+-- ── lines ───────────────────────────────────────────────────────────────────────────────────
 
 -- n fields from the field i on
 fields_from : ℕ → ℕ → List (List ℕ) → List (List ℕ)
@@ -224,6 +228,8 @@ parts_read limits (s ∷ t ∷ ss) (more h e) =
 pub read_spelled : (limits : Limits) (s : List ℕ) → Every (λ l. l ≢ misspelled) (lines limits s) → spell (lines limits s) ≡ s
 unfolding lines
 read_spelled limits s e = parts_read limits (cut line_feed s) e ∙ join_cut line_feed s
+
+-- ── sheets ──────────────────────────────────────────────────────────────────────────────────
 
 header_spelled : (h : Header) → Spelled (header h)
 header_spelled h e = let z : ◌≡◌ {A = ℕ} 0 1 = cc in omega arith

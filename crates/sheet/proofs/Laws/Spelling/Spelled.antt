@@ -96,8 +96,8 @@ join_lacks b c n (f ∷ []) (more l empty) = l
 join_lacks b c n (f ∷ g ∷ fs) (more l r) = every_append l (more n (join_lacks b c n (g ∷ fs) r))
 
 -- the fields of a line are read back
-read_decimal : (n : ℕ) → n < 10000 → number 10 4 (numeral 10 n) ≡ some n
-read_decimal n h = number_numeral 10 (omega arith) (omega arith) 4 n (omega arith) h
+read_decimal_lem : (n : ℕ) → n < 10000 → number 10 4 (numeral 10 n) ≡ some n
+read_decimal_lem n h = number_numeral 10 (omega arith) (omega arith) 4 n (omega arith) h
 
 read_point_lem : (c : ℕ) (t : Point) → ShortPoint t → read_point ((c ∷ []) ∷ digit t.p ∷ digit t.q ∷ []) ≡ some t
 unfolding read_point
@@ -112,11 +112,11 @@ module _ (limits : Limits) (some_figures : 1 ≤ limits.figures) where
   read_header_lem h s =
       rw (
         read_kind_lem h.kind,
-        read_decimal h.m1 s.short_m1,
-        read_decimal h.m2 s.short_m2,
-        read_decimal h.slots s.short_slots,
-        read_decimal h.additions s.short_additions,
-        read_decimal h.doublings s.short_doublings,
+        read_decimal_lem h.m1 s.short_m1,
+        read_decimal_lem h.m2 s.short_m2,
+        read_decimal_lem h.slots s.short_slots,
+        read_decimal_lem h.additions s.short_additions,
+        read_decimal_lem h.doublings s.short_doublings,
         read_scalar_lem h.k s.short_k,
         read_scalar_lem h.l s.short_l,
       )

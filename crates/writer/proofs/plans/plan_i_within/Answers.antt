@@ -9,7 +9,7 @@ use Rattle.digits.specs.Two.{Column}
 use Rattle.sheet.specs.declared.Plan.TheVariants.{I}
 use Rattle.written.specs.Makes.{Makes}
 use Rattle.writer.specs.Rows.{columns_by}
-use Rattle.writer.specs.Rows.Made.{columns_make}
+use Rattle.writer.proofs.Laws.Rows.Made.{columns_make}
 use Rattle.writer.specs.Call.Met.{windows_valid}
 use Rattle.writer.proofs.PlanAnswers.{wide, rooms, fits, i_written}
 use Rattle.writer.proofs.plans.plan_i_within.Goals.{After-are_scalars}

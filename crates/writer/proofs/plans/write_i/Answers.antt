@@ -8,13 +8,13 @@ use lib.ListN.{length}
 use Rattle.digits.specs.Scalar.{Bytes, signed_scalar, sized}
 use Rattle.digits.specs.Limits.{gateway}
 use Rattle.recode.specs.Call.{weight_written}
-use Rattle.recode.specs.Call.Short.{answer_short}
+use Rattle.recode.proofs.Laws.Call.Short.{answer_short}
 use Rattle.writer.specs.Call.Met.{windows_valid}
 use Rattle.sheet.specs.declared.Plan.TheVariants.{I}
 use Rattle.written.specs.Makes.{Makes}
 use Rattle.written.specs.Valid.{Valid}
 use Rattle.writer.specs.Rows.{columns_by}
-use Rattle.writer.specs.Rows.Made.{rows_kept, columns_make}
+use Rattle.writer.proofs.Laws.Rows.Made.{rows_kept, columns_make}
 use Rattle.writer.proofs.DigitRows.{in_bounds, few_places, Standing, ready, standing_written, row_calls}
 use Rattle.writer.proofs.plans.write_i.Goals.{After-weight-2}
 use Rattle.writer.proofs.plans.write_i.Goals as goal

@@ -26,6 +26,8 @@ use Rattle.written.specs.Written.{unless_zero, place_steps, add_all, moves_of, s
 use Rattle.written.specs.Written as Written
 use Rattle.written.specs.Written.Stepping.{Fit, InTurn, Place, Stepped, done, step, sum_from}
 
+-- ── the steps of a place ────────────────────────────────────────────────────────────────────
+
 zero_left : (z : ℤ) → pos 0 +ℤ z ≡ z
 zero_left z = omega (integers, sum (pos 0) z)
 
@@ -84,6 +86,8 @@ pub place : (p : Plan) (c : Column) → Fit p c → Place p c (place_steps p c)
 place J c f = place_joint c f
 place (I m1 m2) c f = place_rows c.p c.q f.0 f.1
 
+-- ── the moves below the top ─────────────────────────────────────────────────────────────────
+
 added_columns : (ts : List Point) (c : Column) (cs : List Column) (ms : Moves) (ls : List Line)
     → columns_from (c ∷ cs) (move_lines (add_all ts ms) ++ ls) ≡ columns_from (sum_from c ts ∷ cs) (move_lines ms ++ ls)
 unfolding columns_from move_lines add_all sum_from
@@ -104,6 +108,8 @@ added_doubles : (ts : List Point) (ms : Moves) → move_doubles (add_all ts ms) 
 unfolding move_doubles add_all
 added_doubles [] ms = refl
 added_doubles (t ∷ ts) ms = added_doubles ts ms
+
+-- ── all steps ───────────────────────────────────────────────────────────────────────────────
 
 module _ (p : Plan) where
   added_allowed : {n : ℕ} {ts : List Point} → InTurn p n ts → (ms : Moves) → ((j : ℕ) → AllowedMoves p j ms) → AllowedMoves p n (add_all ts ms)

@@ -1,0 +1,2 @@
+-- Laws of Changed.
+pub mod Listed

@@ -1,0 +1,3 @@
+-- Laws of Next.
+pub mod First
+pub mod Promised

@@ -1,0 +1,4 @@
+-- The theorems of this crate on which nothing in specs/ rests: a definition can be made wrong, and these refuse it.
+pub mod Call
+pub mod Samples
+pub mod Promise

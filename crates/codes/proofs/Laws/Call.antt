@@ -1,0 +1,4 @@
+-- Laws of Call.
+pub mod Returned
+pub mod Short
+pub mod Standing

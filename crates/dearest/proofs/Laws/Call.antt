@@ -1,0 +1,3 @@
+-- Laws of Call.
+pub mod Returned
+pub mod Ordered

@@ -1,0 +1,2 @@
+-- Laws of Call.
+pub mod Row

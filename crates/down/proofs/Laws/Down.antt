@@ -1,0 +1,5 @@
+-- Laws of Down.
+pub mod Settled
+pub mod Places
+pub mod Row
+pub mod Trimmed

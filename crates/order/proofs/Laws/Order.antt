@@ -1,0 +1,2 @@
+-- Laws of Order.
+pub mod Demand

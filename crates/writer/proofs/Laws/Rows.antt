@@ -1,0 +1,2 @@
+-- Laws of Rows.
+pub mod Made
