@@ -14,8 +14,7 @@ ghost use Rattle.reader.specs.Judgement.{judgement};
 ghost use Rattle.host.specs.Told.{told_recoded, told_sheet, told_next, told_dearest, told_judgement, told_packing};
 
 // The row of a scalar for the window m.
-#[unsafe(no_mangle)]
-pub extern "C" fn sheets_row(scalar: &[u8], sign: u32, m: u32, digits: &mut [u8]) -> u64
+pub fn sheets_row(scalar: &[u8], sign: u32, m: u32, digits: &mut [u8]) -> u64
     ensures answer { result ≡ told_recoded (row_answer card scalar.now sign m (length digits.old)) }
     ensures buffer { digits.new ≡ row_buffer card scalar.now sign m digits.old }
 {
@@ -23,8 +22,7 @@ pub extern "C" fn sheets_row(scalar: &[u8], sign: u32, m: u32, digits: &mut [u8]
 }
 
 // The row of a scalar for the window m, from the top down.
-#[unsafe(no_mangle)]
-pub extern "C" fn sheets_row_down(scalar: &[u8], sign: u32, m: u32, digits: &mut [u8]) -> u64
+pub fn sheets_row_down(scalar: &[u8], sign: u32, m: u32, digits: &mut [u8]) -> u64
     ensures answer { result ≡ told_recoded (down_answer card scalar.now sign m (length digits.old)) }
     ensures buffer { digits.new ≡ down_buffer card scalar.now sign m digits.old }
 {
@@ -32,8 +30,7 @@ pub extern "C" fn sheets_row_down(scalar: &[u8], sign: u32, m: u32, digits: &mut
 }
 
 // The joint sparse form of two scalars.
-#[unsafe(no_mangle)]
-pub extern "C" fn sheets_joint(
+pub fn sheets_joint(
     k: &[u8],
     k_sign: u32,
     l: &[u8],
@@ -49,8 +46,7 @@ pub extern "C" fn sheets_joint(
 }
 
 // The joint sparse form of two scalars, and beside each row the codes of its digits.
-#[unsafe(no_mangle)]
-pub extern "C" fn sheets_joint_codes(
+pub fn sheets_joint_codes(
     k: &[u8],
     k_sign: u32,
     l: &[u8],
@@ -72,14 +68,7 @@ pub extern "C" fn sheets_joint_codes(
 }
 
 // The sheet of plan J.
-#[unsafe(no_mangle)]
-pub extern "C" fn sheets_plan_j(
-    k: &[u8],
-    k_sign: u32,
-    l: &[u8],
-    l_sign: u32,
-    sheet: &mut [u8],
-) -> u64
+pub fn sheets_plan_j(k: &[u8], k_sign: u32, l: &[u8], l_sign: u32, sheet: &mut [u8]) -> u64
     ensures answer { result ≡ told_sheet (j_answer card k.now k_sign l.now l_sign (length sheet.old)) }
     ensures buffer { sheet.new ≡ j_buffer card k.now k_sign l.now l_sign sheet.old }
 {
@@ -87,8 +76,7 @@ pub extern "C" fn sheets_plan_j(
 }
 
 // The sheet of plan I with the windows m1 for P and m2 for Q.
-#[unsafe(no_mangle)]
-pub extern "C" fn sheets_plan_i(
+pub fn sheets_plan_i(
     k: &[u8],
     k_sign: u32,
     l: &[u8],
@@ -104,8 +92,7 @@ pub extern "C" fn sheets_plan_i(
 }
 
 // The same from rows that are worked out from the top down.
-#[unsafe(no_mangle)]
-pub extern "C" fn sheets_plan_i_down(
+pub fn sheets_plan_i_down(
     k: &[u8],
     k_sign: u32,
     l: &[u8],
@@ -121,8 +108,7 @@ pub extern "C" fn sheets_plan_i_down(
 }
 
 // The cheapest sheet for k and l that needs no more slots than the limit.
-#[unsafe(no_mangle)]
-pub extern "C" fn sheets_cheapest(
+pub fn sheets_cheapest(
     k: &[u8],
     k_sign: u32,
     l: &[u8],
@@ -137,16 +123,14 @@ pub extern "C" fn sheets_cheapest(
 }
 
 // The smallest larger limit, up to 31, at which the cheapest sheet has fewer additions.
-#[unsafe(no_mangle)]
-pub extern "C" fn sheets_next_limit(k: &[u8], k_sign: u32, l: &[u8], l_sign: u32, limit: u32) -> u64
+pub fn sheets_next_limit(k: &[u8], k_sign: u32, l: &[u8], l_sign: u32, limit: u32) -> u64
     ensures answer { result ≡ told_next (next_answer card k.now k_sign l.now l_sign limit) }
 {
     crate::told::next(chooser::next_limit(k, k_sign, l, l_sign, limit))
 }
 
 // The smallest scalar of so many bits whose row with window 1 has the most digits that are not 0.
-#[unsafe(no_mangle)]
-pub extern "C" fn sheets_dearest(bits: u32, scalar: &mut [u8]) -> u64
+pub fn sheets_dearest(bits: u32, scalar: &mut [u8]) -> u64
     ensures answer { result ≡ told_dearest (dearest_answer bits (length scalar.old)) }
     ensures buffer { scalar.new ≡ dearest_buffer bits scalar.old }
 {
@@ -154,21 +138,14 @@ pub extern "C" fn sheets_dearest(bits: u32, scalar: &mut [u8]) -> u64
 }
 
 // Reads a sheet: accepted, or the first question that it misses.
-#[unsafe(no_mangle)]
-pub extern "C" fn sheets_read(sheet: &[u8]) -> u64
+pub fn sheets_read(sheet: &[u8]) -> u64
     ensures answer { result ≡ told_judgement (judgement (answer card sheet.now)) }
 {
     crate::told::judged(reader::read(sheet))
 }
 
 // So many columns of two rows, a byte for each.
-#[unsafe(no_mangle)]
-pub extern "C" fn sheets_pack(
-    columns: usize,
-    k_digits: &[u8],
-    l_digits: &[u8],
-    packed: &mut [u8],
-) -> u64
+pub fn sheets_pack(columns: usize, k_digits: &[u8], l_digits: &[u8], packed: &mut [u8]) -> u64
     ensures answer { result ≡ told_packing (pack_answer columns k_digits.now l_digits.now (length packed.old)) }
     ensures buffer { packed.new ≡ pack_buffer columns k_digits.now l_digits.now packed.old }
 {
@@ -176,13 +153,7 @@ pub extern "C" fn sheets_pack(
 }
 
 // The two rows of so many bytes.
-#[unsafe(no_mangle)]
-pub extern "C" fn sheets_unpack(
-    columns: usize,
-    packed: &[u8],
-    k_digits: &mut [u8],
-    l_digits: &mut [u8],
-) -> u64
+pub fn sheets_unpack(columns: usize, packed: &[u8], k_digits: &mut [u8], l_digits: &mut [u8]) -> u64
     ensures answer { result ≡ told_packing (unpack_answer columns packed.now (length k_digits.old) (length l_digits.old)) }
     ensures first { k_digits.new ≡ unpack_buffer P columns packed.now k_digits.old l_digits.old }
     ensures second { l_digits.new ≡ unpack_buffer Q columns packed.now k_digits.old l_digits.old }

@@ -12,8 +12,7 @@ ghost use Rattle.reader.specs.Judgement.{judgement};
 ghost use Rattle.host.specs.Told.{told_recoded, told_sheet, told_judgement};
 
 // The row of a scalar for the window m.
-#[unsafe(no_mangle)]
-pub extern "C" fn sheets_gateway_row(scalar: &[u8], sign: u32, m: u32, digits: &mut [u8]) -> u64
+pub fn sheets_gateway_row(scalar: &[u8], sign: u32, m: u32, digits: &mut [u8]) -> u64
     ensures answer { result ≡ told_recoded (row_answer gateway scalar.now sign m (length digits.old)) }
     ensures buffer { digits.new ≡ row_buffer gateway scalar.now sign m digits.old }
 {
@@ -21,13 +20,7 @@ pub extern "C" fn sheets_gateway_row(scalar: &[u8], sign: u32, m: u32, digits: &
 }
 
 // The row of a scalar for the window m, from the top down.
-#[unsafe(no_mangle)]
-pub extern "C" fn sheets_gateway_row_down(
-    scalar: &[u8],
-    sign: u32,
-    m: u32,
-    digits: &mut [u8],
-) -> u64
+pub fn sheets_gateway_row_down(scalar: &[u8], sign: u32, m: u32, digits: &mut [u8]) -> u64
     ensures answer { result ≡ told_recoded (down_answer gateway scalar.now sign m (length digits.old)) }
     ensures buffer { digits.new ≡ down_buffer gateway scalar.now sign m digits.old }
 {
@@ -35,8 +28,7 @@ pub extern "C" fn sheets_gateway_row_down(
 }
 
 // The joint sparse form of two scalars.
-#[unsafe(no_mangle)]
-pub extern "C" fn sheets_gateway_joint(
+pub fn sheets_gateway_joint(
     k: &[u8],
     k_sign: u32,
     l: &[u8],
@@ -52,8 +44,7 @@ pub extern "C" fn sheets_gateway_joint(
 }
 
 // The joint sparse form of two scalars, and beside each row the codes of its digits.
-#[unsafe(no_mangle)]
-pub extern "C" fn sheets_gateway_joint_codes(
+pub fn sheets_gateway_joint_codes(
     k: &[u8],
     k_sign: u32,
     l: &[u8],
@@ -75,14 +66,7 @@ pub extern "C" fn sheets_gateway_joint_codes(
 }
 
 // The sheet of plan J.
-#[unsafe(no_mangle)]
-pub extern "C" fn sheets_gateway_plan_j(
-    k: &[u8],
-    k_sign: u32,
-    l: &[u8],
-    l_sign: u32,
-    sheet: &mut [u8],
-) -> u64
+pub fn sheets_gateway_plan_j(k: &[u8], k_sign: u32, l: &[u8], l_sign: u32, sheet: &mut [u8]) -> u64
     ensures answer { result ≡ told_sheet (j_answer gateway k.now k_sign l.now l_sign (length sheet.old)) }
     ensures buffer { sheet.new ≡ j_buffer gateway k.now k_sign l.now l_sign sheet.old }
 {
@@ -90,8 +74,7 @@ pub extern "C" fn sheets_gateway_plan_j(
 }
 
 // The sheet of plan I with the windows m1 for P and m2 for Q.
-#[unsafe(no_mangle)]
-pub extern "C" fn sheets_gateway_plan_i(
+pub fn sheets_gateway_plan_i(
     k: &[u8],
     k_sign: u32,
     l: &[u8],
@@ -107,8 +90,7 @@ pub extern "C" fn sheets_gateway_plan_i(
 }
 
 // The same from rows that are worked out from the top down.
-#[unsafe(no_mangle)]
-pub extern "C" fn sheets_gateway_plan_i_down(
+pub fn sheets_gateway_plan_i_down(
     k: &[u8],
     k_sign: u32,
     l: &[u8],
@@ -124,8 +106,7 @@ pub extern "C" fn sheets_gateway_plan_i_down(
 }
 
 // The cheapest sheet for k and l that needs no more slots than the limit.
-#[unsafe(no_mangle)]
-pub extern "C" fn sheets_gateway_cheapest(
+pub fn sheets_gateway_cheapest(
     k: &[u8],
     k_sign: u32,
     l: &[u8],
@@ -140,8 +121,7 @@ pub extern "C" fn sheets_gateway_cheapest(
 }
 
 // Reads a sheet: accepted, or the first question that it misses.
-#[unsafe(no_mangle)]
-pub extern "C" fn sheets_gateway_read(sheet: &[u8]) -> u64
+pub fn sheets_gateway_read(sheet: &[u8]) -> u64
     ensures answer { result ≡ told_judgement (judgement (answer gateway sheet.now)) }
 {
     crate::told::judged(reader::gateway_read(sheet))

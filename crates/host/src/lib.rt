@@ -1,4 +1,4 @@
-// The calls for host programs in C: the card's, and the gateway's.
+// The calls for host programs in C: the card's, and the gateway's. The crate host_c exports them.
 #![tactic(auto)]
 
 mod calls;
