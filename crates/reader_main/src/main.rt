@@ -2,11 +2,44 @@
 // to tell that a sheet is too long.
 #![tactic(auto)]
 
-fn main() {
+ghost use Rattle.std.specs.Prelude.{◌≡◌, OnOk, IfOk, IfSome, length, take};
+ghost use Rattle.std.specs.Io.{ReadsAtMost};
+ghost use Rattle.std.specs.Io.KnownBytes.{Appends};
+ghost use Rattle.digits.specs.Limits.{card};
+ghost use Rattle.sheet.specs.Answer.{answer};
+ghost use Rattle.reader.specs.Text.{answer_line};
+
+use std::io;
+use std::io::{Read, Write};
+
+fn main(rt: HostRuntime) -> io::Result<()> {
+    print_verdict(&mut rt.stdin(), &mut rt.stdout())
+}
+
+// Writes the line that answers the bytes of the input, as a sheet.
+fn print_verdict<R: Read, W: Write>(input: &mut R, output: &mut W) -> io::Result<()>
+    ensures { OnOk result (IfSome (R.remaining input.old) (λ sheet. Appends (W.contents output.old) (W.contents output.new) (answer_line (answer card sheet)))) }
+{
     let mut buffer = [0u8; 16385];
-    let n = io::read_full(libc::STDIN_FILENO, &mut buffer);
+    let n = read_full(input, &mut buffer)?;
     let text = reader::verdict(&buffer[..n]);
     let at = text.at;
     let bytes = text.bytes;
-    io::write_all(libc::STDOUT_FILENO, &bytes[at..]);
+    output.write_all(&bytes[at..])
+}
+
+// Reads until the buffer is full or the input ends, and returns how many bytes were read.
+fn read_full<R: Read>(input: &mut R, buffer: &mut [u8]) -> io::Result<usize>
+    ensures within { ReadsAtMost result buffer.new }
+    ensures front { IfOk result (λ n. IfSome (R.remaining input.old) (λ bytes. take n buffer.new ≡ take (length buffer.old) bytes)) }
+{
+    let mut count = 0;
+    while count < buffer.len() {
+        let more = input.read(&mut buffer[count..])?;
+        if more == 0 {
+            break;
+        }
+        count += more;
+    }
+    Ok(count)
 }
