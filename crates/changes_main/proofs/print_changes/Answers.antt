@@ -3,7 +3,7 @@ use Rattle.std.proofs.Common.{◌≡◌, OnOk, take, replicate, sym, subst, leng
 use Rattle.std.proofs.Math.Seq.{take-append_seam}
 use Rattle.std.specs.Io.KnownBytes.{Appends}
 use Rattle.changes.specs.Changed.{changed_orders, changes_length, changes_buffer}
-use Rattle.changes.specs.Promise.{changes_fit}
+use Rattle.changes.proofs.Laws.Promise.{changes_fit}
 use Rattle.changes_main.proofs.print_changes.Goals as goal
 
 take_changes : take (changes_length 18432) (changes_buffer (replicate 18432 0)) ≡ changed_orders

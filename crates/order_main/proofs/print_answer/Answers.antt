@@ -8,7 +8,7 @@ use Rattle.std.specs.Io.KnownBytes.{Appends}
 use Rattle.digits.specs.Limits.{card}
 use Rattle.order.specs.Order.{printed, order_length, order_buffer}
 use Rattle.order.specs.Order.Longest.{long_order}
-use Rattle.order.specs.Promise.{order_fits}
+use Rattle.order.proofs.Laws.Promise.{order_fits}
 use Rattle.order_main.proofs.print_answer.Goals as goal
 
 printed_from_first : (s : List ℕ) → printed card (take 274 s) ≡ printed card s
