@@ -8,7 +8,7 @@ use Rattle.chooser.proofs.CallAnswers.{not_scalars, over_limit, by_plan}
 use Rattle.chooser.proofs.call.cheapest.Goals.{After-cheapest_plan}
 use Rattle.chooser.proofs.call.cheapest.Goals as goal
 
--- what was c.before.before.before.before, and that both scalars are bytes
+-- what was asked, and that both scalars are bytes
 module _ (c : After-cheapest_plan) where
   k-bytes : Bytes c.args.k.now
   k-bytes i = (c.type_inv.k i).fits

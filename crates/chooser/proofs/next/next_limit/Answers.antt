@@ -9,7 +9,7 @@ use Rattle.chooser.proofs.NextAnswers.{no_scalars, no_limit, the_limit}
 use Rattle.chooser.proofs.next.next_limit.Goals.{After-are_scalars}
 use Rattle.chooser.proofs.next.next_limit.Goals as goal
 
--- what was c.before.before.before.before, that both scalars are bytes, and what the first question told
+-- what was asked, that both scalars are bytes, and what the first question told
 module _ (c : After-are_scalars) where
   k-bytes : Bytes c.args.k.now
   k-bytes i = (c.type_inv.k i).fits

@@ -5,7 +5,7 @@ use Rattle.chooser.proofs.Measuring.{Fit, joint_fits, joint_measured}
 use Rattle.chooser.proofs.sizes.joint_size.Goals.{After-places}
 use Rattle.chooser.proofs.sizes.joint_size.Goals as goal
 
--- where the joint call has answered, and what was c.before.before.before.before.before.before.before.before
+-- where the joint call has answered, and what was asked
 module _ (c : After-places) where
   fit : Fit c.gateway_joint-answer.result
   fit =

@@ -4,7 +4,7 @@ use Rattle.chooser.proofs.Measuring.{Fit, row_fits, row_measured}
 use Rattle.chooser.proofs.sizes.row_size.Goals.{After-places}
 use Rattle.chooser.proofs.sizes.row_size.Goals as goal
 
--- where the row call has answered, and what was c.before.before.before.before.before.before.before
+-- where the row call has answered, and what was asked
 module _ (c : After-places) where
   fit : Fit c.gateway_row-answer.result
   fit = row_fits c.args.bytes.now c.args.m c.args.digits.now c.gateway_row-answer.ensures.answer (λ i. (c.type_inv.bytes i).fits)

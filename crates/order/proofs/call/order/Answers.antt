@@ -18,7 +18,7 @@ returns-then-out-limits c =
     let a = c.args in
     let old = short_buffer a.line.now a.out.now (subst (λ (limits : Limits). length a.out.now < limits.sheet) c.card-limits.ensures c.if-out-limits.true) in record { answer = old.0; buffer = old.1.0; promised = old.1.1 }
 
--- what was c.before.before.before.before.before, in a buffer with room
+-- what was asked, in a buffer with room
 module _ (c : Else-out-limits) where
   room : card.sheet ≤ length c.args.out.now
   room = subst (λ (limits : Limits). limits.sheet ≤ length c.args.out.now) c.card-limits.ensures c.if-out-limits.false

@@ -38,7 +38,7 @@ returns-then-k_digits-room c =
     let a = c.args in
     let old = no_first a.limits a.k.now a.k_sign a.l.now a.l_sign a.k_digits.now a.l_digits.now (sizes (goal.at.returns-then-k_digits-room c).Then-are_scalars) (omega (arith, c.if-k_digits-room.true, c.larger.ensures)) in record { answer = old.0; first = old.1.0; second = old.1.1.0; promised = old.1.1.1.0; question = old.1.1.1.1 }
 
--- the c.before.before buffer has room
+-- the first buffer has room
 module _ (c : Else-k_digits-room) where
   k-room : 8 * max (length (c.args.k.now)) (length (c.args.l.now)) + 1 ≤ length c.args.k_digits.now
   k-room = omega (arith, c.if-k_digits-room.false, c.larger.ensures)

@@ -15,7 +15,7 @@ use Rattle.writer.proofs.PlanAnswers.{wide, rooms, fits, i_written}
 use Rattle.writer.proofs.plans.plan_i_within.Goals.{After-are_scalars}
 use Rattle.writer.proofs.plans.plan_i_within.Goals as goal
 
--- what was c.before.before.before.before.before.before, that both scalars are bytes, and that the plan's digits make them where the windows are good ones
+-- what was asked, that both scalars are bytes, and that the plan's digits make them where the windows are good ones
 module _ (c : After-are_scalars) where
   k-bytes : Bytes c.args.k.now
   k-bytes i = (c.type_inv.k i).fits

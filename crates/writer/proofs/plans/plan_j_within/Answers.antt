@@ -8,7 +8,7 @@ use Rattle.writer.proofs.PlanAnswers.{wide, rooms, fits, j_scalar, j_room, j_wri
 use Rattle.writer.proofs.plans.plan_j_within.Goals.{After-are_scalars}
 use Rattle.writer.proofs.plans.plan_j_within.Goals as goal
 
--- what was c.before.before.before.before.before.before, and that both scalars are bytes
+-- what was asked, and that both scalars are bytes
 module _ (c : After-are_scalars) where
   k-bytes : Bytes c.args.k.now
   k-bytes i = (c.type_inv.k i).fits

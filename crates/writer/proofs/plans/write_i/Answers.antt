@@ -19,7 +19,7 @@ use Rattle.writer.proofs.DigitRows.{in_bounds, few_places, Standing, ready, stan
 use Rattle.writer.proofs.plans.write_i.Goals.{After-weight-2}
 use Rattle.writer.proofs.plans.write_i.Goals as goal
 
--- what was c.before.before.before.before.before.before.before.before.before.before.before.before.before.before.before.before.before.before, that both scalars are bytes, the two calls, and the digits after them
+-- what was asked, that both scalars are bytes, the two calls, and the digits after them
 module _ (c : After-weight-2) where
   k-bytes : Bytes c.args.k.now
   k-bytes i = (c.type_inv.k i).fits

@@ -12,7 +12,7 @@ use Rattle.writer.proofs.DigitRows.{in_bounds, few_places, Standing, ready, stan
 use Rattle.writer.proofs.plans.write_j.Goals.{After-weight-weight}
 use Rattle.writer.proofs.plans.write_j.Goals as goal
 
--- what was c.before.before.before.before.before.before.before.before.before.before.before.before.before.before, that both scalars are bytes, the c.before.before.before.before.before.before, and the digits after it
+-- what was asked, that both scalars are bytes, the call, and the digits after it
 module _ (c : After-weight-weight) where
   k-bytes : Bytes c.args.k.now
   k-bytes i = (c.type_inv.k i).fits

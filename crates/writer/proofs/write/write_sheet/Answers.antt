@@ -18,7 +18,7 @@ use Rattle.writer.proofs.Puts.{put_append, put_same, put_front, room_first, room
 use Rattle.writer.proofs.write.write_sheet.Goals.{After-less_one-2}
 use Rattle.writer.proofs.write.write_sheet.Goals as goal
 
--- what was c.before.before.before.before.before.before.before.before.before, the sheet, its parts, and their room
+-- what was asked, the sheet, its parts, and their room
 module _ (c : After-less_one-2) where
   abbrev k : ℤ
   k = signed_scalar c.args.k.now c.args.k_sign
