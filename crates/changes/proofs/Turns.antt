@@ -8,8 +8,10 @@ use borrow.Author.Tests.{le-leb, lt-leb}
 use lib.IntN.{pos}
 use lib.ListN.{length, take, drop, length-append, length-drop}
 use lib.Seq.{paste, paste-zero, take_at, drop-append-add, take_all, drop-drop}
-use Rattle.digits.specs.Scalar.{little, scalar}
+use Rattle.digits.specs.Scalar.{little, scalar, signed_scalar}
+use Rattle.sheet.specs.contracts.PlanPartialEq.TheImpl as PlanEq
 use Rattle.sheet.specs.declared.Plan.{Plan}
+use Rattle.sheet.specs.declared.Plan.TheVariants.{J, I}
 use Rattle.chooser.specs.Cheapest.{cheapest_plan}
 use Rattle.order.specs.Order.{Prints}
 use Rattle.changes.specs.Changed.{old_plan, orders, old_of, new_of, same_plan, line_with, line_of, lines_of, changed_orders, changes_length, changes_buffer}
@@ -23,9 +25,17 @@ scalar_one : (x : ℕ) → scalar (x ∷ []) ≡ x
 unfolding scalar little
 scalar_one x = omega arith
 
+-- plans are compared by their derived equality
+pub eq_same : (p q : Plan) → PlanEq.eq-value.it p q ≡ same_plan p q
+eq_same J J = refl
+eq_same J (I n1 n2) = refl
+eq_same (I m1 m2) J = refl
+eq_same (I m1 m2) (I n1 n2) = refl
+
 -- the plans of the n-th order, from its bytes
 module _ (n : ℕ) where
-  pub old_is : {p : Plan} → p ≡ old_plan (pos (scalar (n / 64 ∷ []))) (pos (scalar (n / 4 % 16 ∷ []))) (n % 4) → p ≡ old_of (order_at n)
+  pub old_is : {p : Plan} → p ≡ old_plan (signed_scalar (n / 64 ∷ []) 0) (signed_scalar (n / 4 % 16 ∷ []) 0) (n % 4) → p ≡ old_of (order_at n)
+  unfolding signed_scalar
   old_is e = e ∙ ap₂ (λ (k l : ℕ). old_plan (pos k) (pos l) (n % 4)) (scalar_one (n / 64)) (scalar_one (n / 4 % 16))
 
   pub new_is : {p : Plan} → p ≡ cheapest_plan (pos (scalar (n / 64 ∷ []))) (pos (scalar (n / 4 % 16 ∷ []))) (n % 4) → p ≡ new_of (order_at n)

@@ -7,7 +7,7 @@ ghost use Rattle.chooser.specs.Cheapest.{cheapest_plan};
 ghost use Rattle.changes.specs.Changed.{changes_length, changes_buffer};
 ghost use Rattle.changes.specs.Body.{order_at, line_if};
 
-use chooser::Choice;
+use digits::{Card, Scalar};
 use sheet::Plan;
 
 // How many orders there are, and room for a line of each.
@@ -16,18 +16,15 @@ const ORDERS: u32 = 1024;
 const ROOM: usize = 18432;
 
 // The plan of today.
-fn new_plan(k: &[u8], l: &[u8], limit: u32) -> Plan
-    requires { (sized card k.now && sized card l.now ≡ true) × (is_limit limit ≡ true) }
-    ensures { result ≡ cheapest_plan (pos (scalar k.now)) (pos (scalar l.now)) limit }
+fn new_plan(k: Scalar<'_>, l: Scalar<'_>, limit: u32) -> Plan
+    requires { (sized card k.bytes.now && sized card l.bytes.now ≡ true) × (is_limit limit ≡ true) }
+    ensures { result ≡ cheapest_plan (pos (scalar k.entry.bytes.now)) (pos (scalar l.entry.bytes.now)) limit }
 {
-    match chooser::cheapest_plan(k, l, limit) {
-        Choice::BadScalar => Plan::J,
-        Choice::BadLimit => Plan::J,
-        Choice::Is(plan) => plan,
-    }
+    // Each scalar is sized, and the limit is one, so no question is missed.
+    chooser::cheapest_plan::<Card>(k, l, limit).unwrap_or(Plan::J)
 }
 
-// Puts the line of the n-th order at a place if its plan changed, and returns the place behind it.
+// Puts the line of the n-th order at a place if its plan changed, and returns the place behind it. By number: three fields in one loop.
 fn put_order(out: &mut [u8], at: usize, n: u32) -> usize
     requires { (n < 1024) × (at + 18 ≤ length out.old) }
     ensures answer { result ≡ at + length (line_if (order_at n)) }
@@ -39,9 +36,17 @@ fn put_order(out: &mut [u8], at: usize, n: u32) -> usize
     let limit = n % 4;
     let k_bytes = [k as u8];
     let l_bytes = [l as u8];
-    let old = crate::old::old_plan(&k_bytes, &l_bytes, limit);
-    let new = new_plan(&k_bytes, &l_bytes, limit);
-    if crate::line::same(old, new) {
+    let first = Scalar {
+        bytes: &k_bytes,
+        sign: 0,
+    };
+    let second = Scalar {
+        bytes: &l_bytes,
+        sign: 0,
+    };
+    let old = crate::old::old_plan(first, second, limit);
+    let new = new_plan(first, second, limit);
+    if old == new {
         return at;
     }
     crate::line::put_line(out, at, crate::line::line_of(k, l, limit, old, new));
@@ -57,10 +62,8 @@ pub fn changed_orders(out: &mut [u8]) -> usize
         return 0;
     }
     let mut at = 0;
-    let mut n = 0;
-    while n < ORDERS {
+    for n in 0..ORDERS {
         at = put_order(out, at, n);
-        n += 1;
     }
     at
 }

@@ -1,25 +1,9 @@
 ghost use Rattle.std.specs.Prelude.{◌≡◌, ◌+◌, ◌≤◌, ◌<◌, pos, length};
 ghost use Rattle.std.proofs.Math.Seq.{paste};
-ghost use Rattle.changes.specs.Changed.{same_plan, line_with};
+ghost use Rattle.changes.specs.Changed.{line_with};
 ghost use Rattle.changes.specs.Body.{OneFigure};
 
 use sheet::Plan;
-
-// Whether two plans are the same.
-pub fn same(a: Plan, b: Plan) -> bool
-    ensures { result ≡ same_plan a b }
-{
-    match a {
-        Plan::J => match b {
-            Plan::J => true,
-            Plan::I(_, _) => false,
-        },
-        Plan::I(m1, m2) => match b {
-            Plan::J => false,
-            Plan::I(n1, n2) => (m1 == n1) & (m2 == n2),
-        },
-    }
-}
 
 // The line of an order with an old and a new plan, each field of which has one figure.
 pub fn line_of(k: u32, l: u32, slots: u32, old: Plan, new: Plan) -> [u8; 18]
@@ -51,14 +35,10 @@ pub fn line_of(k: u32, l: u32, slots: u32, old: Plan, new: Plan) -> [u8; 18]
     ]
 }
 
-// Puts a line at a place.
+// Puts a line at a place. (Buffer and place apart, as in the writer.)
 pub fn put_line(out: &mut [u8], at: usize, line: [u8; 18])
     requires { (at + 18 ≤ length out.old) × (length line ≡ 18) }
     ensures { out.new ≡ paste out.old at line 18 }
 {
-    let mut i = 0;
-    while i < 18 {
-        out[at + i] = line[i];
-        i += 1;
-    }
+    out[at..at + 18].copy_from_slice(&line);
 }

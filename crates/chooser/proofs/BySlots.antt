@@ -15,10 +15,11 @@ use Rattle.sheet.specs.declared.Plan.{Plan}
 use Rattle.sheet.specs.declared.Plan.TheVariants.{J, I}
 use Rattle.sheet.specs.Plan.{slots, most_slots}
 use Rattle.written.specs.Valid.{Valid}
-use Rattle.chooser.specs.declared.next.NextLimit.{NextLimit}
+use Rattle.std.specs.declared.option.Option.{Option}
+use Rattle.chooser.specs.declared.next.Pays.{Pays}
 use Rattle.chooser.specs.Body.BySlots.{lowered, lowest, lowered_by, by_slots}
 use Rattle.chooser.specs.Body.Choice.{plan_additions}
-use Rattle.chooser.specs.Body.Sizes.{row_sizes, joint_size}
+use Rattle.chooser.specs.Body.Sizes.{sizes}
 use Rattle.chooser.specs.Cheapest.{plans, cheapest_plan}
 use Rattle.chooser.proofs.Laws.Cheapest.Least.{smallest, valid_in, plan_valid, plan_within, plan_least}
 use Rattle.chooser.specs.Lexicographic.Order.{In, here, there}
@@ -127,7 +128,7 @@ module _ (f : Plan → ℕ) where
 -- with the sizes of two scalars' rows
 module _ (k l : ℕ) where
   abbrev pub additions_by : Plan → ℕ
-  additions_by p = plan_additions p (row_sizes most_slots k) (row_sizes most_slots l) (joint_size most_slots k l)
+  additions_by = plan_additions (sizes most_slots k l)
 
   lowest_fewest : (n : ℕ) → n ≤ most_slots → lowest (by_slots additions_by) n ≡ fewest (pos k) (pos l) n
   lowest_fewest n h =
@@ -146,10 +147,10 @@ module _ (k l : ℕ) where
       )
 
   -- the first limit at which the lowest falls is the next that pays
-  pub next_by_slots : (limit : ℕ) → limit ≤ most_slots → {r : NextLimit} → Next (lowest (by_slots additions_by)) limit r → r ≡ next_limit (pos k) (pos l) limit
+  pub next_by_slots : (limit : ℕ) → limit ≤ most_slots → {r : Option Pays} → Next (lowest (by_slots additions_by)) limit r → r ≡ next_limit (pos k) (pos l) limit
   next_by_slots limit low {r} h = next_only (pos k) (pos l) limit r (go h)
     where
-      go : {r : NextLimit} → Next (lowest (by_slots additions_by)) limit r → Next (fewest (pos k) (pos l)) limit r
+      go : {r : Option Pays} → Next (lowest (by_slots additions_by)) limit r → Next (fewest (pos k) (pos l)) limit r
       go (pays {n} u v e w q) =
           pays {n = n} u v (sym (lowest_fewest n v) ∙ e) (omega (arith, lowest_fewest limit low)) (λ i x y. omega (arith, q i x y, lowest_fewest limit low, lowest_fewest i (omega arith)))
       go (none q) = none (λ i x y. omega (arith, q i x y, lowest_fewest limit low, lowest_fewest i y))

@@ -3,6 +3,7 @@ pub mod Windows
 pub mod Numbers
 pub mod Limit
 pub mod Turns
+pub mod Costs
 pub mod Lowest
 pub mod BySlots
 pub mod CallAnswers

@@ -1,15 +1,16 @@
 -- The lowest of numbers up to a place, and the turns of the loop that finds the first place at which it falls.
-use mathlib.Core.Path.{◌≡◌, refl, sym, ap, subst, ◌∙◌}
-use mathlib.Core.Bool.{Bool, true, false, ◌&&◌, and-eq-true_iff}
+use mathlib.Core.Path.{◌≡◌, refl, sym, ap, ◌∙◌}
+use mathlib.Core.Bool.{Bool, true, false}
 use mathlib.Core.List.{List}
 use Prim.Native.Nat.{ℕ, zero, suc, ◌+◌, ◌-◌, ◌≤◌, ◌<◌, min}
+use native.Mathlib.Decide.{dec_lt}
 use native.Mathlib.Omega.{arith}
-use borrow.Author.Tests.{ltb-true, ltb-false, leb-true, leb-false}
-use lib.Dec.{T, ltb, leb}
+use borrow.Author.Tests.{leb-true, leb-false}
+use lib.Dec.{leb}
 use lib.ListN.{get_or}
-use Rattle.chooser.specs.declared.next.NextLimit.TheVariants.{Pays, None}
+use Rattle.std.specs.declared.option.Option.TheVariants.{None}
 use Rattle.chooser.specs.Body.BySlots.{lowest}
-use Rattle.chooser.specs.Next.{Next, pays, none}
+use Rattle.chooser.specs.Next.{paying, Next, pays, none}
 
 module _ (t : List ℕ) where
   -- it is one of the numbers, and no more than any
@@ -38,42 +39,37 @@ module _ (t : List ℕ) where
 
   -- it is known up to the place before n, and up to the limit where this is before n
   pub record Seen (limit n least : ℕ) : Type 0 where
-    pub some : 1 ≤ n
     pub far : n ≤ 32
     pub up_to : least ≡ lowest t (n - 1)
     pub asked : limit < n → least ≡ lowest t limit
 
-  lowest_next : (n : ℕ) → 1 ≤ n → lowest t n ≡ min (lowest t (n - 1)) (get_or t n 0)
+  lowest_next : (n : ℕ) → lowest t n ≡ min (lowest t (n - 1)) (get_or t n 0)
   unfolding lowest
-  lowest_next zero h = absurd (omega arith)
-  lowest_next (suc n) h = let e : suc n - 1 ≡ n = omega arith in sym (ap (λ (i : ℕ). min (lowest t i) (get_or t (suc n) 0)) e)
+  lowest_next zero = omega arith
+  lowest_next (suc n) = let e : suc n - 1 ≡ n = omega arith in sym (ap (λ (i : ℕ). min (lowest t i) (get_or t (suc n) 0)) e)
 
   module _ (limit : ℕ) where
-    pub seen_first : Seen limit 1 (get_or t 0 0)
+    pub seen_first : Seen limit 0 (get_or t 0 0)
     unfolding lowest
-    seen_first = record { some = omega arith; far = omega arith; up_to = refl; asked = λ h. let e : 0 ≡ limit = omega arith in ap (lowest t) e }
+    seen_first = record { far = omega arith; up_to = refl; asked = λ h. absurd (omega arith) }
 
     module _ (n least : ℕ) (s : Seen limit n least) where
       -- a lower number behind the limit
-      pub seen_lower : n < 32 → (ltb (get_or t n 0) least && ltb limit n) ≡ true → Next (lowest t) limit (Pays n (get_or t n 0))
-      seen_lower h c =
-          let (d, e) = (and-eq-true_iff (ltb (get_or t n 0) least) (ltb limit n)).0 c in
-          let less = ltb-true (get_or t n 0) least d in
-          let behind = ltb-true limit n e in
-          let here : lowest t n ≡ get_or t n 0 = omega (arith, lowest_next n s.some, s.up_to) in
+      pub seen_lower : n < 32 → get_or t n 0 < least → limit < n → Next (lowest t) limit (paying n (get_or t n 0))
+      seen_lower h less behind =
+          let here : lowest t n ≡ get_or t n 0 = omega (arith, lowest_next n, s.up_to) in
           pays {n = n} behind (omega arith) here (omega (arith, s.asked behind)) (λ i u v. omega (arith, s.asked behind, s.up_to, lowest_falls i (n - 1) (omega arith)))
 
       -- another number, or one not behind the limit
-      pub seen_more : n < 32 → (ltb (get_or t n 0) least && ltb limit n) ≡ false → Seen limit (n + 1) (min least (get_or t n 0))
-      seen_more h c =
-          let next : min least (get_or t n 0) ≡ lowest t n = omega (arith, lowest_next n s.some, s.up_to) in
+      pub seen_more : n < 32 → (limit < n → least ≤ get_or t n 0) → Seen limit (n + 1) (min least (get_or t n 0))
+      seen_more h kept =
+          let next : min least (get_or t n 0) ≡ lowest t n = omega (arith, lowest_next n, s.up_to) in
           let same : n + 1 - 1 ≡ n = omega arith in
-          record { some = omega arith; far = omega arith; up_to = next ∙ sym (ap (lowest t) same); asked = go next (ltb (get_or t n 0) least) (ltb limit n) refl refl c }
+          record { far = omega arith; up_to = next ∙ sym (ap (lowest t) same); asked = λ g. go next g (dec_lt limit n) }
         where
-          go : min least (get_or t n 0) ≡ lowest t n → (a b : Bool) → ltb (get_or t n 0) least ≡ a → ltb limit n ≡ b → (a && b) ≡ false → limit < n + 1 → min least (get_or t n 0) ≡ lowest t limit
-          go next true true d e f g = absurd (subst T f tt)
-          go next false true d e f g = omega (arith, ltb-false (get_or t n 0) least d, s.asked (ltb-true limit n e))
-          go next a false d e f g = let at : n ≡ limit = omega (arith, ltb-false limit n e) in next ∙ ap (lowest t) at
+          go : min least (get_or t n 0) ≡ lowest t n → limit < n + 1 → Dec (limit < n) → min least (get_or t n 0) ≡ lowest t limit
+          go next g (yes e) = omega (arith, kept e, s.asked e)
+          go next g (no e) = let at : n ≡ limit = omega arith in next ∙ ap (lowest t) at
 
       -- all numbers
       pub seen_all : 32 ≤ n → Next (lowest t) limit None

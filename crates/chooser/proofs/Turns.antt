@@ -9,7 +9,6 @@ use borrow.Author.Tests.{le-leb}
 use lib.IntN.{pos}
 use lib.ListN.{length, get_or, drop}
 use lib.Seq.{drop-cons}
-use Rattle.digits.specs.Row as Rows
 use Rattle.digits.specs.Two.Paired.{paired_length}
 use Rattle.forms.specs.Row.{row}
 use Rattle.sheet.specs.declared.Plan.{Plan}
@@ -29,8 +28,8 @@ use Rattle.chooser.proofs.Laws.Cheapest.Lists.{within_in}
 use Rattle.chooser.specs.Candidate.Turns.{take_one}
 use Rattle.chooser.specs.Lexicographic.{better, least}
 use Rattle.chooser.specs.Lexicographic.Order.{least_agrees}
-use Rattle.chooser.specs.Body.Sizes.{row_of, row_size, row_sizes, places_at, weight_at, joint_size}
 use Rattle.chooser.specs.declared.sizes.Size.{Size}
+use Rattle.chooser.specs.Body.Sizes.{row_of, row_size, row_sizes, size_at, sizes}
 use Rattle.chooser.proofs.Numbers.{plans_length}
 use Rattle.chooser.proofs.Windows.{sizes_at}
 
@@ -49,32 +48,29 @@ module _ (f : Plan → List ℕ) (limit : ℕ) where
 -- ── the keys by sizes ─────────────────────────────────────────────────────────────────────
 
 module _ (limit k l : ℕ) where
-  window_size : (n m : ℕ) → Window m → slots (I m 1) ≤ limit
-      → (places_at (row_sizes limit n) m ≡ length (row m (pos n))) × (weight_at (row_sizes limit n) m ≡ Rows.weight (row m (pos n)))
+  window_size : (n m : ℕ) → Window m → slots (I m 1) ≤ limit → size_at (row_sizes limit n) m ≡ row_of (row m (pos n))
   window_size n m w h =
       let e : 2 * ((m - 1) / 2) + 1 ≡ m = omega (arith, w.odd) in
-      let at = sizes_at limit n ((m - 1) / 2) (omega (arith, w.within)) in
-      let size : row_size limit n (2 * ((m - 1) / 2) + 1) ≡ row_of (row m (pos n)) = ap (row_size limit n) e ∙ rw (le-leb (slots (I m 1)) limit h) in
-      (at.0 ∙ ap (λ (s : Size). s.places) size, at.1 ∙ ap (λ (s : Size). s.weight) size)
+      sizes_at limit n ((m - 1) / 2) (omega (arith, w.within)) ∙ ap (row_size limit n) e ∙ rw (le-leb (slots (I m 1)) limit h)
 
-  plan_weighed : {p : Plan} → Valid p → slots p ≤ limit → plan_weight p (row_sizes limit k) (row_sizes limit l) (joint_size limit k l) ≡ weight p (digits p (pos k) (pos l))
+  plan_weighed : {p : Plan} → Valid p → slots p ≤ limit → plan_weight (sizes limit k l) p ≡ weight p (digits p (pos k) (pos l))
   unfolding digits
   plan_weighed for_j h = rw (le-leb (slots J) limit h)
   plan_weighed (for_i {m1} {m2} v w) h =
       let s = window_slots m1 m2 (omega (arith, v.odd)) (omega (arith, w.odd)) in
-      omega (arith, (window_size k m1 v (omega arith)).1, (window_size l m2 w (omega arith)).1, paired_weight (row m1 (pos k)) (row m2 (pos l)))
+      omega (arith, ap (λ (s : Size). s.weight) (window_size k m1 v (omega arith)), ap (λ (s : Size). s.weight) (window_size l m2 w (omega arith)), paired_weight (row m1 (pos k)) (row m2 (pos l)))
 
-  plan_placed : {p : Plan} → Valid p → slots p ≤ limit → plan_places p (row_sizes limit k) (row_sizes limit l) (joint_size limit k l) ≡ length (digits p (pos k) (pos l))
+  plan_placed : {p : Plan} → Valid p → slots p ≤ limit → plan_places (sizes limit k l) p ≡ length (digits p (pos k) (pos l))
   unfolding digits
   plan_placed for_j h = rw (le-leb (slots J) limit h)
   plan_placed (for_i {m1} {m2} v w) h =
       let s = window_slots m1 m2 (omega (arith, v.odd)) (omega (arith, w.odd)) in
-      ap₂ (λ (a b : ℕ). max a b) (window_size k m1 v (omega arith)).0 (window_size l m2 w (omega arith)).0 ∙ sym (paired_length (row m1 (pos k)) (row m2 (pos l)))
+      ap₂ (λ (a b : Size). max a.places b.places) (window_size k m1 v (omega arith)) (window_size l m2 w (omega arith)) ∙ sym (paired_length (row m1 (pos k)) (row m2 (pos l)))
 
-  pub additions_agree : {p : Plan} → Valid p → slots p ≤ limit → plan_additions p (row_sizes limit k) (row_sizes limit l) (joint_size limit k l) ≡ written_additions p (pos k) (pos l)
+  pub additions_agree : {p : Plan} → Valid p → slots p ≤ limit → plan_additions (sizes limit k l) p ≡ written_additions p (pos k) (pos l)
   additions_agree {p} v h = ap (λ (w : ℕ). table_additions p + (w - 1)) (plan_weighed v h) ∙ sym (written_cost p (pos k) (pos l) v)
 
-  key_agrees : (p : Plan) → Valid p → slots p ≤ limit → cost_key (row_sizes limit k) (row_sizes limit l) (joint_size limit k l) p ≡ key (pos k) (pos l) p
+  key_agrees : (p : Plan) → Valid p → slots p ≤ limit → cost_key (sizes limit k l) p ≡ key (pos k) (pos l) p
   unfolding cost_key key
   key_agrees p v h =
       ap₂ (λ (a d : ℕ). key_with a d p)
@@ -82,8 +78,8 @@ module _ (limit k l : ℕ) where
       (ap (λ (n : ℕ). table_doublings p + (n - 1)) (plan_placed v h) ∙ sym (written_doublings_lem p (pos k) (pos l) v))
 
   -- the least plan by sizes is the cheapest
-  pub plan_by_sizes : least (cost_key (row_sizes limit k) (row_sizes limit l) (joint_size limit k l)) (I 1 1) (within limit plans) ≡ cheapest_plan (pos k) (pos l) limit
+  pub plan_by_sizes : least (cost_key (sizes limit k l)) (I 1 1) (within limit plans) ≡ cheapest_plan (pos k) (pos l) limit
   unfolding cheapest_plan
   plan_by_sizes =
-      least_agrees (cost_key (row_sizes limit k) (row_sizes limit l) (joint_size limit k l)) (key (pos k) (pos l)) (I 1 1) (within limit plans)
+      least_agrees (cost_key (sizes limit k l)) (key (pos k) (pos l)) (I 1 1) (within limit plans)
       (key_agrees (I 1 1) smallest (omega arith)) (λ p o. key_agrees p (within_valid limit o) (within_in limit plans o).1)

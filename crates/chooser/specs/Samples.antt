@@ -1,6 +1,7 @@
 -- Samples of the order between plans, in which each part of it decides: one table of headers of cheapest sheets, by one computed
 -- test. And of the next limit that pays: another table, by another test.
-use Rattle.std.specs.Prelude.{◌≡◌, ℕ, ℤ, pos, get_or}
+use Rattle.std.specs.Prelude.{◌≡◌, ℕ, ℤ, pos, get_or, Ok}
+use Rattle.std.specs.declared.option.Option.{Option}
 use mathlib.Core.List.{List, [], ◌∷◌}
 use Prim.Native.String.{String}
 use Rattle.digits.specs.Integer.{half}
@@ -19,10 +20,10 @@ use Rattle.written.specs.Written.{digits, add_all, moves_of, steps_of, lines_of,
 use Rattle.chooser.specs.Cheapest.{interleaved, plans, within, key, cheapest_plan, cheapest}
 use Rattle.chooser.specs.Lexicographic.{before, least}
 use Rattle.chooser.specs.Next.{first_below, next_limit, limit_told, additions_told}
-use Rattle.chooser.specs.declared.next.NextLimit.{NextLimit}
+use Rattle.chooser.specs.declared.next.Pays.{Pays}
 
 -- the cheapest sheet and the next limit, with every definition that they compute by
-unfoldable pub computed : ℤ → ℤ → ℕ → List ℕ × NextLimit
+unfoldable pub computed : ℤ → ℤ → ℕ → List ℕ × Option Pays
 unfolding Row.row Row.row_in Row.digit Row.rest residue width bit_length bit_length_in half Joint.joint Joint.joint_in Joint.column Joint.digit Joint.rest numeral_in numeral odds additions doublings move_lines sheet_lines join spell cut paired digits add_all moves_of steps_of lines_of additions_of doublings_of sheet_of interleaved plans within key cheapest_plan cheapest before least first_below next_limit
 computed k l limit = (cheapest k l limit, next_limit k l limit)
 
@@ -72,8 +73,8 @@ pub record LimitSample : Type 0 where
 -- what it says
 abbrev pub LimitSays : LimitSample → Type 0
 LimitSays s =
-    (limit_told (next_limit (pos s.k) (pos s.l) s.limit) ≡ s.next)
-    × (additions_told (next_limit (pos s.k) (pos s.l) s.limit) ≡ s.additions)
+    (limit_told (Ok (next_limit (pos s.k) (pos s.l) s.limit)) ≡ s.next)
+    × (additions_told (Ok (next_limit (pos s.k) (pos s.l) s.limit)) ≡ s.additions)
 
 abbrev from : ℕ → ℕ → ℕ → ℕ → ℕ → LimitSample
 from k l limit next additions = record { k = k; l = l; limit = limit; next = next; additions = additions }

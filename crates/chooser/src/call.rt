@@ -1,119 +1,66 @@
-ghost use Rattle.std.specs.Prelude.{◌≡◌, ℕ, ◌≤◌, length};
-ghost use Rattle.digits.specs.Limits.{card, gateway};
-ghost use Rattle.digits.specs.Scalar.{signed_scalar};
+ghost use Rattle.std.specs.Prelude.{◌≡◌, ℕ, length, IfOk};
+ghost use Rattle.digits.specs.Asked.{Asked};
+ghost use Rattle.digits.specs.Scalar.{Bytes, signed_scalar};
+ghost use Rattle.digits.specs.declared.missed.Missed.TheVariants.{BadLimit};
+ghost use Rattle.sheet.specs.Plan.{is_limit};
+ghost use Rattle.writer.specs.Call.{number};
 ghost use Rattle.chooser.specs.Body.Choice.{plan_answer, plan_buffer};
 ghost use Rattle.chooser.specs.Call.{choice_number, choice_question, choice_answer, ChoicePromised, cheapest_question, cheapest_answer, cheapest_buffer, Promised};
-ghost use Rattle.writer.specs.Call.{number};
 
-use digits::Limits;
+use digits::{Machine, Missed, Scalar};
 use sheet::Plan;
-use writer::Sheet;
+use writer::{Sheet, WriteSheet};
 
-// The sheet of a plan.
-fn sheet_of(plan: Plan, k: &[u8], k_sign: u32, l: &[u8], l_sign: u32, sheet: &mut [u8]) -> Sheet
-    ensures answer { result ≡ plan_answer card plan k.now k_sign l.now l_sign (length sheet.old) }
-    ensures buffer { sheet.new ≡ plan_buffer card plan k.now k_sign l.now l_sign sheet.old }
+// Question 4: whether a limit of slots may be asked for.
+pub fn check_limit(limit: u32) -> Result<(), Missed>
+    ensures { Asked (is_limit limit) BadLimit result }
 {
-    match plan {
-        Plan::J => writer::plan_j(k, k_sign, l, l_sign, sheet),
-        Plan::I(m1, m2) => writer::plan_i(k, k_sign, l, l_sign, m1, m2, sheet),
+    if Plan::is_limit(limit) {
+        return Ok(());
     }
+    Err(Missed::BadLimit)
 }
 
-// The sheet of a plan, at the gateway.
-fn gateway_sheet_of(
+// The plan of the cheapest sheet for k and l that needs no more slots than the limit. The scalars' signs do not change it. Questions 1 and 4
+// are asked.
+pub fn cheapest_plan<M: Machine>(k: Scalar<'_>, l: Scalar<'_>, limit: u32) -> Result<Plan, Missed>
+    ensures answer { result ≡ choice_answer M.LIMITS k.entry.bytes.now l.entry.bytes.now limit }
+    ensures promised { (k_sign l_sign : ℕ) → ChoicePromised result (signed_scalar k.entry.bytes.now k_sign) (signed_scalar l.entry.bytes.now l_sign) limit }
+    ensures question { choice_number result ≡ choice_question M.LIMITS k.entry.bytes.now l.entry.bytes.now limit }
+{
+    digits::check_scalars(k, l, M::LIMITS)?;
+    check_limit(limit)?;
+    Ok(crate::choice::first_plan(k.bytes, l.bytes, limit))
+}
+
+// The sheet of a plan. Questions 1, 2 and 3 are asked.
+pub fn sheet_of<M: WriteSheet>(
     plan: Plan,
-    k: &[u8],
-    k_sign: u32,
-    l: &[u8],
-    l_sign: u32,
+    k: Scalar<'_>,
+    l: Scalar<'_>,
     sheet: &mut [u8],
-) -> Sheet
-    ensures answer { result ≡ plan_answer gateway plan k.now k_sign l.now l_sign (length sheet.old) }
-    ensures buffer { sheet.new ≡ plan_buffer gateway plan k.now k_sign l.now l_sign sheet.old }
+) -> Result<Sheet, Missed>
+    ensures answer { result ≡ plan_answer M.LIMITS plan k.entry.bytes.now k.entry.sign l.entry.bytes.now l.entry.sign (length sheet.old) }
+    ensures buffer { sheet.new ≡ plan_buffer M.LIMITS plan k.entry.bytes.now k.entry.sign l.entry.bytes.now l.entry.sign sheet.old }
 {
     match plan {
-        Plan::J => writer::gateway_plan_j(k, k_sign, l, l_sign, sheet),
-        Plan::I(m1, m2) => writer::gateway_plan_i(k, k_sign, l, l_sign, m1, m2, sheet),
+        Plan::J => M::plan_j(k, l, sheet),
+        Plan::I(m1, m2) => M::plan_i(k, l, m1, m2, sheet),
     }
 }
 
-// What the call for the plan answers: the question missed, or the plan.
-#[derive(Clone, Copy)]
-pub enum Choice {
-    // Question 1: a scalar has a byte, and no more than the limits allow.
-    BadScalar,
-    // Question 4: a limit of slots is at most 31.
-    BadLimit,
-    // The plan.
-    Is(Plan),
-}
-
-// The plan of the cheapest sheet, by the limits.
-fn choice_within(limits: Limits, k: &[u8], l: &[u8], limit: u32) -> Choice
-    requires { limits.bytes ≤ gateway.bytes }
-    ensures answer { result ≡ choice_answer limits k.now l.now limit }
-    ensures promised { (k_sign l_sign : ℕ) → ChoicePromised result (signed_scalar k.now k_sign) (signed_scalar l.now l_sign) limit }
-    ensures question { choice_number result ≡ choice_question limits k.now l.now limit }
-{
-    if digits::are_scalars(limits, k, l) {
-        if Plan::is_limit(limit) {
-            return Choice::Is(crate::choice::first_plan(k, l, limit));
-        }
-        return Choice::BadLimit;
-    }
-    Choice::BadScalar
-}
-
-// The plan of the cheapest sheet for k and l that needs no more slots than the limit. The scalars' signs do not change it.
-pub fn cheapest_plan(k: &[u8], l: &[u8], limit: u32) -> Choice
-    ensures answer { result ≡ choice_answer card k.now l.now limit }
-    ensures promised { (k_sign l_sign : ℕ) → ChoicePromised result (signed_scalar k.now k_sign) (signed_scalar l.now l_sign) limit }
-    ensures question { choice_number result ≡ choice_question card k.now l.now limit }
-{
-    choice_within(Limits::card(), k, l, limit)
-}
-
-// The plan of the cheapest sheet, at the gateway.
-fn gateway_cheapest_plan(k: &[u8], l: &[u8], limit: u32) -> Choice
-    ensures answer { result ≡ choice_answer gateway k.now l.now limit }
-    ensures promised { (k_sign l_sign : ℕ) → ChoicePromised result (signed_scalar k.now k_sign) (signed_scalar l.now l_sign) limit }
-    ensures question { choice_number result ≡ choice_question gateway k.now l.now limit }
-{
-    choice_within(Limits::gateway(), k, l, limit)
-}
-
-// The cheapest sheet for k and l that needs no more slots than the limit.
-pub fn cheapest(k: &[u8], k_sign: u32, l: &[u8], l_sign: u32, limit: u32, sheet: &mut [u8]) -> Sheet
-    ensures answer { result ≡ cheapest_answer card k.now k_sign l.now l_sign limit (length sheet.old) }
-    ensures buffer { sheet.new ≡ cheapest_buffer card k.now k_sign l.now l_sign limit sheet.old }
-    ensures promised { Promised card result sheet.new (signed_scalar k.now k_sign) (signed_scalar l.now l_sign) limit }
-    ensures question { number result ≡ cheapest_question card k.now l.now limit (length sheet.old) }
-{
-    match cheapest_plan(k, l, limit) {
-        Choice::BadScalar => Sheet::BadScalar,
-        Choice::BadLimit => Sheet::BadLimit,
-        Choice::Is(plan) => sheet_of(plan, k, k_sign, l, l_sign, sheet),
-    }
-}
-
-// The cheapest sheet, at the gateway.
-pub fn gateway_cheapest(
-    k: &[u8],
-    k_sign: u32,
-    l: &[u8],
-    l_sign: u32,
+// The cheapest sheet for k and l that needs no more slots than the limit. Questions 1, 4 and 3 are asked.
+pub fn cheapest<M: WriteSheet>(
+    k: Scalar<'_>,
+    l: Scalar<'_>,
     limit: u32,
     sheet: &mut [u8],
-) -> Sheet
-    ensures answer { result ≡ cheapest_answer gateway k.now k_sign l.now l_sign limit (length sheet.old) }
-    ensures buffer { sheet.new ≡ cheapest_buffer gateway k.now k_sign l.now l_sign limit sheet.old }
-    ensures promised { Promised gateway result sheet.new (signed_scalar k.now k_sign) (signed_scalar l.now l_sign) limit }
-    ensures question { number result ≡ cheapest_question gateway k.now l.now limit (length sheet.old) }
+) -> Result<Sheet, Missed>
+    ensures answer { result ≡ cheapest_answer M.LIMITS k.entry.bytes.now k.entry.sign l.entry.bytes.now l.entry.sign limit (length sheet.old) }
+    ensures buffer { sheet.new ≡ cheapest_buffer M.LIMITS k.entry.bytes.now k.entry.sign l.entry.bytes.now l.entry.sign limit sheet.old }
+    ensures promised { Promised M.LIMITS result sheet.new (signed_scalar k.entry.bytes.now k.entry.sign) (signed_scalar l.entry.bytes.now l.entry.sign) limit }
+    ensures question { number result ≡ cheapest_question M.LIMITS k.entry.bytes.now l.entry.bytes.now limit (length sheet.old) }
 {
-    match gateway_cheapest_plan(k, l, limit) {
-        Choice::BadScalar => Sheet::BadScalar,
-        Choice::BadLimit => Sheet::BadLimit,
-        Choice::Is(plan) => gateway_sheet_of(plan, k, k_sign, l, l_sign, sheet),
-    }
+    let plan = cheapest_plan::<M>(k, l, limit)?;
+    sheet_of::<M>(plan, k, l, sheet)
 }

@@ -6,6 +6,6 @@ mod choice;
 mod next;
 mod sizes;
 
-pub use call::{Choice, cheapest, cheapest_plan, gateway_cheapest};
+pub use call::{cheapest, cheapest_plan, sheet_of};
 pub use choice::{Candidate, Cost};
-pub use next::{NextLimit, next_limit};
+pub use next::{Pays, next_limit};

@@ -1,20 +1,109 @@
-ghost use Rattle.std.specs.Prelude.{◌≡◌, ◌+◌, ◌*◌, ◌%◌, ◌≤◌, pos, length};
+ghost use Rattle.std.specs.Prelude.{◌≡◌, ◌+◌, ◌-◌, ◌*◌, ◌/◌, ◌%◌, ◌<◌, ◌≤◌, pos, length, get_or};
 ghost use Rattle.digits.specs.Limits.{gateway};
 ghost use Rattle.digits.specs.Scalar.{scalar};
 ghost use Rattle.forms.specs.Joint.{joint};
 ghost use Rattle.forms.specs.Row.{row};
-ghost use Rattle.chooser.specs.Body.Sizes.{row_of, columns_of, row_size, row_sizes, joint_size};
+ghost use Rattle.chooser.specs.Body.Choice.{plan_weight, plan_places, plan_additions, plan_doublings};
+ghost use Rattle.chooser.specs.Body.Sizes.{Fit, size_told, row_of, columns_of, row_size, row_sizes, joint_size, size_at, sizes};
 
+use digits::{Gateway, Missed, Scalar};
+use recode::{Recode, Written};
 use sheet::Plan;
+
+// How many windows there are: 1, 3, .. 31.
+const WINDOWS: usize = 16;
 
 // The most places of a row's digits: one more than the bits of the widest scalar.
 const PLACES: usize = 1025;
 
 // How many places a row or a joint form has, and how many of them are not zero; the scalars' signs change neither.
-#[derive(Clone, Copy)]
+#[derive(Clone, Copy, Default)]
 pub struct Size {
     pub places: u32,
     pub weight: u32,
+}
+
+// The sizes of two scalars' rows, for the windows 1, 3, .. 31, and of their joint form.
+#[derive(Clone, Copy)]
+pub struct Sizes {
+    pub k: [Size; WINDOWS],
+    pub l: [Size; WINDOWS],
+    pub joint: Size,
+}
+
+impl Sizes {
+    // The sizes that plans within the limit need; none in place of others.
+    pub fn within(k: &[u8], l: &[u8], limit: u32) -> Sizes
+        requires { (1 ≤ length k.now) × ((length k.now ≤ gateway.bytes) × ((1 ≤ length l.now) × (length l.now ≤ gateway.bytes))) }
+        ensures { result ≡ sizes limit (scalar k.now) (scalar l.now) }
+    {
+        Sizes {
+            k: row_sizes(k, limit),
+            l: row_sizes(l, limit),
+            joint: joint_size_within(k, l, limit),
+        }
+    }
+
+    // What a plan counts: joint columns, or the digits of both rows.
+    fn weight(&self, plan: Plan) -> u64
+        ensures weight { result ≡ plan_weight self.now plan }
+        ensures bound { result < 8589934592 }
+    {
+        match plan {
+            Plan::J => self.joint.weight as u64,
+            Plan::I(m1, m2) => {
+                size_at(&self.k, m1).weight as u64 + size_at(&self.l, m2).weight as u64
+            }
+        }
+    }
+
+    // The places of its digits: those of the joint columns, or of the longer row.
+    fn places(&self, plan: Plan) -> u32
+        ensures { result ≡ plan_places self.now plan }
+    {
+        match plan {
+            Plan::J => self.joint.places,
+            Plan::I(m1, m2) => size_at(&self.k, m1).places.max(size_at(&self.l, m2).places),
+        }
+    }
+
+    // Its additions: those of its table, and one for each digit that is not zero but the first.
+    pub fn additions(&self, plan: Plan) -> u64
+        ensures { result ≡ plan_additions self.now plan }
+    {
+        plan.table_additions() as u64 + self.weight(plan).saturating_sub(1)
+    }
+
+    // Its doublings: those of its table, and one for each place but the first.
+    pub fn doublings(&self, plan: Plan) -> u64
+        ensures { result ≡ plan_doublings self.now plan }
+    {
+        plan.table_doublings() as u64 + self.places(plan).saturating_sub(1) as u64
+    }
+}
+
+// The size for the window m; none past the last.
+fn size_at(sizes: &[Size], m: u32) -> Size
+    ensures { result ≡ size_at sizes.now m }
+{
+    sizes
+        .get((m.saturating_sub(1) / 2) as usize)
+        .copied()
+        .unwrap_or_default()
+}
+
+// The size that an answer tells; none where a question was missed.
+fn size_told(answer: Result<Written, Missed>) -> Size
+    requires { Fit answer }
+    ensures { result ≡ size_told answer }
+{
+    answer.map_or(
+        Size::default(),
+        |written| Size {
+            places: written.length as u32,
+            weight: written.weight as u32,
+        },
+    )
 }
 
 // The size of the scalar's row for the window m, which is written into the places lent.
@@ -23,11 +112,7 @@ fn row_size(bytes: &[u8], m: u32, digits: &mut [u8]) -> Size
     requires room { 8 * length bytes.now + 1 ≤ length digits.old }
     ensures { result ≡ row_of (row m (pos (scalar bytes.now))) }
 {
-    let answer = recode::gateway_row(bytes, 0, m, digits);
-    Size {
-        places: answer.places() as u32,
-        weight: answer.weight() as u32,
-    }
+    size_told(Gateway::row(Scalar { bytes, sign: 0 }, m, digits))
 }
 
 // The size of the scalar's row for the window m where a plan within the limit may have it, and none where none may.
@@ -39,26 +124,19 @@ fn row_size_within(bytes: &[u8], m: u32, limit: u32, digits: &mut [u8]) -> Size
     if Plan::I(m, 1).is_within(limit) {
         return row_size(bytes, m, digits);
     }
-    Size {
-        places: 0,
-        weight: 0,
-    }
+    Size::default()
 }
 
-// The places and the weight of the scalar's rows, for the windows 1, 3, .. 31, as far as the limit lets a plan have them.
-pub fn row_sizes(bytes: &[u8], limit: u32) -> [u32; 32]
+// The sizes of the scalar's rows, for the windows 1, 3, .. 31, as far as the limit lets a plan have them.
+fn row_sizes(bytes: &[u8], limit: u32) -> [Size; WINDOWS]
     requires { (1 ≤ length bytes.now) × (length bytes.now ≤ gateway.bytes) }
     ensures { result ≡ row_sizes limit (scalar bytes.now) }
 {
-    let mut sizes = [0u32; 32];
+    let mut sizes = [Size::default(); WINDOWS];
     let mut digits = [0u8; PLACES];
     let places = 8 * bytes.len() + 1;
-    let mut i = 0;
-    while i < 16 {
-        let size = row_size_within(bytes, 2 * (i as u32) + 1, limit, &mut digits[..places]);
-        sizes[2 * i] = size.places;
-        sizes[2 * i + 1] = size.weight;
-        i += 1;
+    for (i, size) in sizes.iter_mut().enumerate() {
+        *size = row_size_within(bytes, 2 * (i as u32) + 1, limit, &mut digits[..places]);
     }
     sizes
 }
@@ -70,23 +148,18 @@ fn joint_size(k: &[u8], l: &[u8]) -> Size
 {
     let mut k_digits = [0u8; PLACES];
     let mut l_digits = [0u8; PLACES];
-    let answer = recode::gateway_joint(k, 0, l, 0, &mut k_digits, &mut l_digits);
-    Size {
-        places: answer.places() as u32,
-        weight: answer.weight() as u32,
-    }
+    let k = Scalar { bytes: k, sign: 0 };
+    let l = Scalar { bytes: l, sign: 0 };
+    size_told(Gateway::joint(k, l, &mut k_digits, &mut l_digits))
 }
 
 // The size of the joint form where plan J is within the limit, and none where it is not.
-pub fn joint_size_within(k: &[u8], l: &[u8], limit: u32) -> Size
+fn joint_size_within(k: &[u8], l: &[u8], limit: u32) -> Size
     requires { (1 ≤ length k.now) × ((length k.now ≤ gateway.bytes) × ((1 ≤ length l.now) × (length l.now ≤ gateway.bytes))) }
     ensures { result ≡ joint_size limit (scalar k.now) (scalar l.now) }
 {
     if Plan::J.is_within(limit) {
         return joint_size(k, l);
     }
-    Size {
-        places: 0,
-        weight: 0,
-    }
+    Size::default()
 }

@@ -3,7 +3,7 @@
 use mathlib.Core.Path.{◌≡◌, refl, sym, ap, ap₂, ◌∙◌}
 use mathlib.Core.Bool.{Bool, true, false}
 use mathlib.Core.List.{List, [], ◌∷◌, ◌++◌, map}
-use Prim.Native.Nat.{ℕ, zero, suc, ◌+◌, ◌-◌, ◌*◌, ◌≤◌, ◌<◌, max}
+use Prim.Native.Nat.{ℕ, zero, suc, ◌+◌, ◌-◌, ◌≤◌, ◌<◌}
 use native.Mathlib.Numerals.{add-one}
 use native.Mathlib.Omega.{arith}
 use borrow.Author.Tests.{ltb-true, ltb-false}
@@ -13,9 +13,7 @@ use lib.ListN.{length, get_or, set, replicate, length-append, length-replicate, 
 use lib.Seq.{append_snoc, set_at, ext_get_or}
 use Rattle.digits.specs.Buffer.Zeros.{padded_at}
 use Rattle.digits.specs.Byte.{byte_of}
-use Rattle.digits.specs.Scalar.{Bytes, signed_scalar, bit_length}
-use Rattle.digits.proofs.Laws.Scalar.Signed.{scalar_size}
-use Rattle.digits.specs.Scalar.Value.{length_bytes}
+use Rattle.digits.specs.Scalar.{signed_scalar}
 use Rattle.digits.specs.Column.Length.{row_length}
 use Rattle.digits.specs.Two.{Two, other, two}
 use Rattle.forms.specs.Codes.{digits, remainder_at, code_at, below, codes}
@@ -25,7 +23,6 @@ use Rattle.forms.proofs.Laws.Codes.Next.{codes_next}
 use Rattle.forms.proofs.Laws.Codes.Place.{digit_at_lem}
 use Rattle.forms.specs.Joint.{joint}
 use Rattle.forms.proofs.Laws.Joint.Digit.{digit_fits}
-use Rattle.forms.proofs.Laws.Joint.Length.{joint_length}
 use Rattle.forms.specs.Test.{equal, every_digit}
 use Rattle.codes.specs.Body.{byte_code, byte_codes}
 use Rattle.recode.specs.Call.{filled}
@@ -126,19 +123,8 @@ module _ (k l : ℤ) (r : Two) (buffer : List ℕ) (places : ℕ) (few : length 
       ∙ sym (padded_at (codes k l r) (length out - length (codes k l r)) i))
 
 -- what `write_codes` asks of a row that a joint call left, and what it then leaves
-module _ (s : List ℕ) (s_sign : ℕ) (t : List ℕ) (t_sign : ℕ) (r : Two) (places : ℕ) (buffer row out : List ℕ) (s_bytes : Bytes s) (t_bytes : Bytes t)
-    (enough : places ≡ 8 * max (length s) (length t) + 1) (written : row ≡ filled (digits_of r s s_sign t t_sign) buffer) (room : places ≤ length out) where
-  few : length (joint (signed_scalar s s_sign) (signed_scalar t t_sign)) ≤ places
-  few =
-      omega (
-        arith,
-        joint_length (signed_scalar s s_sign) (signed_scalar t t_sign),
-        ap bit_length (scalar_size s s_sign),
-        ap bit_length (scalar_size t t_sign),
-        length_bytes s s_bytes,
-        length_bytes t t_bytes,
-      )
-
+module _ (s : List ℕ) (s_sign : ℕ) (t : List ℕ) (t_sign : ℕ) (r : Two) (places : ℕ) (buffer row out : List ℕ)
+    (few : length (joint (signed_scalar s s_sign) (signed_scalar t t_sign)) ≤ places) (written : row ≡ filled (digits_of r s s_sign t t_sign) buffer) (room : places ≤ length out) where
   pub asks : places ≤ length row → (places ≤ length row) × ((places ≤ length out) × (get_or row places 0 ≡ 0))
   asks h =
       (h, (room, rw written (above (digits_of r s s_sign t t_sign) buffer places (omega (arith, few, row_length two r (joint (signed_scalar s s_sign) (signed_scalar t t_sign)))))))

@@ -1,17 +1,16 @@
 -- What the call for a joint form with its codes answers and leaves in the four buffers it is lent, for all input; and what it promises
 -- of the codes that stand there.
 pub mod Returned
-use Rattle.std.specs.Prelude.{◌≡◌, Bool, ◌&&◌, cond, List, [], ◌∷◌, ◌++◌, ℕ, ◌-◌, max, ℤ, pos, length, get_or, replicate}
+use Rattle.std.specs.Prelude.{◌≡◌, Bool, ◌&&◌, cond, List, [], ◌∷◌, ◌++◌, ℕ, ◌-◌, max, ℤ, pos, length, get_or, replicate, Ok, Err}
 use Rattle.digits.specs.Buffer.{row_below, columns_below}
 use Rattle.digits.specs.declared.limits.Limits.{Limits}
 use Rattle.digits.specs.Missed.{missed}
 use Rattle.digits.specs.Scalar.{signed_scalar, sized}
 use Rattle.digits.specs.Two.{Two, other, of}
 use Rattle.forms.specs.Codes.{Leaves, remainder, Held, digit_by, codes}
-use Rattle.recode.specs.Call.{roomy, left, joint_answer, JointOf}
+use Rattle.digits.specs.declared.missed.Missed.TheVariants.{NoRoom}
+use Rattle.recode.specs.Call.{Recoded, roomy, left, joint_answer, JointOf}
 use Rattle.recode.specs.Call.Joint.{digits_of}
-use Rattle.recode.specs.declared.answer.Recoded.{Recoded}
-use Rattle.recode.specs.declared.answer.Recoded.TheVariants.{BadScalar, BadWindow, NoRoom, Written}
 
 -- the questions: 1 of both scalars; 3 of both rows; then 3 of both code buffers, by the longer scalar
 abbrev pub codes_question : Limits → List ℕ → List ℕ → ℕ → ℕ → ℕ → ℕ → ℕ
@@ -23,10 +22,8 @@ codes_question limits s t places places' room room' =
 
 -- an answer that stands only where there is room for the codes too
 abbrev pub if_roomy : Bool → Recoded → Recoded
-if_roomy met BadScalar = BadScalar
-if_roomy met BadWindow = BadWindow
-if_roomy met NoRoom = NoRoom
-if_roomy met (Written n w) = cond met (Written n w) NoRoom
+if_roomy met (Ok w) = cond met (Ok w) (Err NoRoom)
+if_roomy met (Err e) = Err e
 
 -- the answer: that of a joint form, where the code buffers are roomy
 unfoldable pub codes_answer : Limits → List ℕ → ℕ → List ℕ → ℕ → ℕ → ℕ → ℕ → ℕ → Recoded
@@ -43,10 +40,8 @@ coded ns buffer = ns ++ replicate (length buffer - length ns) 0
 
 -- a code buffer after a call: with the codes, or as lent where a question was missed
 abbrev pub left_codes : Recoded → List ℕ → List ℕ → List ℕ
-left_codes BadScalar ns buffer = buffer
-left_codes BadWindow ns buffer = buffer
-left_codes NoRoom ns buffer = buffer
-left_codes (Written n w) ns buffer = coded ns buffer
+left_codes (Ok w) ns buffer = coded ns buffer
+left_codes (Err e) ns buffer = buffer
 
 module _ (limits : Limits) (r : Two) (s : List ℕ) (s_sign : ℕ) (t : List ℕ) (t_sign : ℕ) (k l k_codes l_codes : List ℕ) where
   -- one of the two digit buffers
@@ -69,8 +64,6 @@ pub record CodesOf (k l : ℤ) (ds : Two → List ℤ) (ns : Two → List ℕ) :
 
 -- where n places were written, the columns below n are those of a joint form, and the code buffers hold their codes
 abbrev pub CodesPromised : ℤ → ℤ → Recoded → List ℕ → List ℕ → List ℕ → List ℕ → Type 0
-CodesPromised k l BadScalar buffer buffer' ns ns' = Unit {0}
-CodesPromised k l BadWindow buffer buffer' ns ns' = Unit {0}
-CodesPromised k l NoRoom buffer buffer' ns ns' = Unit {0}
-CodesPromised k l (Written n w) buffer buffer' ns ns' =
-    JointOf k l w (columns_below n buffer buffer') × CodesOf k l (λ r. row_below n (of buffer buffer' r)) (of ns ns')
+CodesPromised k l (Ok w) buffer buffer' ns ns' =
+    JointOf k l w.weight (columns_below w.length buffer buffer') × CodesOf k l (λ r. row_below w.length (of buffer buffer' r)) (of ns ns')
+CodesPromised k l (Err e) buffer buffer' ns ns' = Unit {0}

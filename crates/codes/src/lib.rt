@@ -4,4 +4,4 @@
 mod call;
 mod row;
 
-pub use call::{gateway_joint_codes, joint_codes};
+pub use call::joint_codes;

@@ -1,26 +1,27 @@
 -- What the call for the dearest scalar answers and leaves in the buffer it is lent, for all input; and what it promises of the bytes that
 -- stand there.
 pub mod Returned
-use Rattle.std.specs.Prelude.{◌≡◌, Bool, ◌&&◌, cond, List, [], ◌∷◌, ℕ, ltb, leb, eqb, length}
+use Rattle.std.specs.Prelude.{◌≡◌, Bool, ◌&&◌, cond, List, [], ◌∷◌, ℕ, ltb, leb, eqb, length, Result, Ok, Err}
 use Rattle.digits.specs.Limits.{card, bits}
-use Rattle.digits.specs.Missed.{missed}
+use Rattle.digits.specs.Missed.{missed, number_of}
+use Rattle.digits.specs.declared.missed.Missed.{Missed}
+use Rattle.digits.specs.declared.missed.Missed.TheVariants.{NoRoom, BadSize}
 use Rattle.digits.specs.Scalar.{scalar}
 use Rattle.dearest.specs.Bytes.{in_bytes}
 use Rattle.dearest.specs.Dearest.{most, dearest, Heaviest}
-use Rattle.dearest.specs.declared.answer.Dearest.{Dearest}
-use Rattle.dearest.specs.declared.answer.Dearest.TheVariants.{BadSize, BadRoom, Found}
+
+-- what the call answers: how many digits are not 0, or the question missed
+abbrev pub Dearest : Type 0
+Dearest = Result ℕ Missed
 
 -- the number of the question missed, 0 where none is
 abbrev pub number : Dearest → ℕ
-number BadSize = 15
-number BadRoom = 3
-number (Found w) = 0
+number = number_of
 
 -- how many digits are not 0
 abbrev pub most_told : Dearest → ℕ
-most_told BadSize = 0
-most_told BadRoom = 0
-most_told (Found w) = w
+most_told (Ok w) = w
+most_told (Err e) = 0
 
 -- 15. is the size 1 to 528, the bits of a card's scalar?
 abbrev pub is_size : ℕ → Bool
@@ -36,13 +37,12 @@ dearest_question size room = missed ((15, is_size size) ∷ (3, is_room room) �
 
 -- the answer: the first question missed, or the most
 unfoldable pub dearest_answer : ℕ → ℕ → Dearest
-dearest_answer size room = cond (is_size size) (cond (is_room room) (Found (most size)) BadRoom) BadSize
+dearest_answer size room = cond (is_size size) (cond (is_room room) (Ok (most size)) (Err NoRoom)) (Err BadSize)
 
 -- the buffer after a call: the scalar's bytes; as lent where a question was missed
 abbrev pub left : Dearest → List ℕ → List ℕ → List ℕ
-left BadSize bytes buffer = buffer
-left BadRoom bytes buffer = buffer
-left (Found w) bytes buffer = bytes
+left (Ok w) bytes buffer = bytes
+left (Err e) bytes buffer = buffer
 
 unfoldable pub dearest_buffer : ℕ → List ℕ → List ℕ
 dearest_buffer size buffer = left (dearest_answer size (length buffer)) (in_bytes card.bytes (dearest size)) buffer
@@ -54,6 +54,5 @@ pub record Fills (size w : ℕ) (s : List ℕ) : Type 0 where
   pub heaviest : Heaviest size (scalar s) w
 
 abbrev pub Promised : ℕ → Dearest → List ℕ → Type 0
-Promised size BadSize s = Unit {0}
-Promised size BadRoom s = Unit {0}
-Promised size (Found w) s = Fills size w s
+Promised size (Ok w) s = Fills size w s
+Promised size (Err e) s = Unit {0}

@@ -18,11 +18,7 @@ fn fill_from(first: usize, bytes: &mut [u8])
     requires { first ≤ length bytes.old }
     ensures { bytes.new ≡ take first bytes.old ++ replicate (length bytes.old - first) 170 }
 {
-    let mut i = first;
-    while i < bytes.len() {
-        bytes[i] = PAIRS;
-        i += 1;
-    }
+    bytes[first..].fill(PAIRS);
 }
 
 // Fills bytes with so many pairs of bits 10, the lowest in the last byte, zeros in front.

@@ -1,9 +1,7 @@
 // The dearest scalar of a size: the smallest one whose row with window 1 has the most digits that are not 0.
 #![tactic(auto)]
 
-mod answer;
 mod call;
 mod fill;
 
-pub use answer::Dearest;
 pub use call::dearest;

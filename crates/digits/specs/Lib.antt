@@ -7,3 +7,4 @@ pub mod Column
 pub mod Two
 pub mod Buffer
 pub mod Missed
+pub mod Asked

@@ -4,9 +4,5 @@ ghost use Rattle.std.specs.Prelude.{◌≡◌, length, replicate};
 pub fn clear(buffer: &mut [u8])
     ensures { buffer.new ≡ replicate (length buffer.old) 0 }
 {
-    let mut i = 0;
-    while i < buffer.len() {
-        buffer[i] = 0;
-        i += 1;
-    }
+    buffer.fill(0);
 }

@@ -11,16 +11,13 @@ pub struct BitLength {
 pub fn bit_length(bytes: &[u8]) -> BitLength
     ensures { BitsOf (scalar bytes.now) result.below result.top }
 {
-    let mut i = 0;
-    while i < bytes.len() {
-        let byte = bytes[i];
+    for (i, &byte) in bytes.iter().enumerate() {
         if byte != 0 {
             return BitLength {
                 below: bytes.len() - (i + 1),
-                top: 8 - u8::leading_zeros(byte),
+                top: 8 - byte.leading_zeros(),
             };
         }
-        i += 1;
     }
     BitLength { below: 0, top: 0 }
 }

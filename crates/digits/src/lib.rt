@@ -1,10 +1,14 @@
-// Digits and scalars: the byte of a digit, a cleared buffer, the limits, the size of a scalar, its sign and its bit length, and windows.
+// Digits and scalars: the byte of a digit, a cleared buffer, the machines and their limits, a scalar with its sign and bit length, windows, and the
+// questions that a call may miss.
 #![tactic(auto)]
 
 mod buffer;
 mod byte;
 mod length;
 mod limits;
+mod machine;
+mod missed;
+mod room;
 mod scalar;
 mod window;
 
@@ -12,5 +16,8 @@ pub use buffer::clear;
 pub use byte::byte_of;
 pub use length::{BitLength, bit_length};
 pub use limits::Limits;
-pub use scalar::{are_scalars, is_negative, is_scalar};
-pub use window::{are_windows, is_window};
+pub use machine::{Card, Gateway, Machine};
+pub use missed::Missed;
+pub use room::{check_room, places_for};
+pub use scalar::{Scalar, check_scalars};
+pub use window::{Window, are_windows, is_window};

@@ -13,7 +13,7 @@ use Rattle.digits.specs.Integer.Sign.{signed_size}
 use Rattle.digits.specs.Row.Adding.{count_odd}
 use Rattle.digits.specs.Scalar.{bit_length}
 use Rattle.forms.specs.Residue.{width}
-use Rattle.down.specs.declared.window.Window.{Window}
+use Rattle.down.specs.declared.window.WindowDigit.{WindowDigit}
 use Rattle.down.specs.Body.Window.{size_of, width_of, WindowOf, place_of, byte_for, Placed}
 use Rattle.down.specs.Down.{worth, beyond, taken, window, places}
 use Rattle.down.proofs.Laws.Down.Settled.{worth_size}
@@ -24,7 +24,7 @@ use Rattle.down.proofs.Turns.{Turn, skip, store, out_length}
 use Rattle.down.proofs.WindowSize.{Signs, width_few, chosen}
 
 -- a window r with the equal bits above it from place i on: its digit has a place in the buffer, and is stored
-pub record DigitTurn (m u sign P : ℕ) (out : List ℕ) (i heavy t : ℕ) (r : Window) : Type 0 where
+pub record DigitTurn (m u sign P : ℕ) (out : List ℕ) (i heavy t : ℕ) (r : WindowDigit) : Type 0 where
   pub some : 1 ≤ r.taken
   pub placed : i ≤ 1024 → Placed i r (length out)
   pub stored : (next : ℕ) (out' : List ℕ) (minus : ℕ) → next ≡ suc i - r.taken → out' ≡ set out (place_of i r) (byte_for r minus) → Signs sign t minus
@@ -49,7 +49,7 @@ module _ {m u sign P : ℕ} (one : 1 ≤ m) {out : List ℕ} {i heavy : ℕ} (tu
       skip m u sign P one turn k y (omega arith) (zeros ∙ ap (λ (j : ℕ). places m u j ++ replicate y (pos 0)) {x = suc i - y} {y = k} (omega arith))
 
   -- a window of at most b bits
-  module _ (few : m ≤ 31) (wide : width m ≤ b) (within : b ≤ n) (r : Window) (made : WindowOf n m x b r) where
+  module _ (few : m ≤ 31) (wide : width m ≤ b) (within : b ≤ n) (r : WindowDigit) (made : WindowOf n m x b r) where
     abbrev s : ℕ
     s = n - b
 

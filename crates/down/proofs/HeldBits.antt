@@ -12,7 +12,7 @@ use lib.Pow.{pow-add, pow_pos, pow_mono, shl-shr, shr_lt, shr-shr}
 use Rattle.digits.specs.Scalar.{bit_length}
 use Rattle.digits.specs.Scalar.Length.{below_length, length_least}
 use Rattle.forms.specs.Residue.{width}
-use Rattle.down.specs.declared.window.Window.{Window}
+use Rattle.down.specs.declared.window.WindowDigit.{WindowDigit}
 use Rattle.down.specs.Body.Ahead.{turned, Folded}
 use Rattle.down.specs.Body.Window.{size_of, width_of, WindowOf}
 use Rattle.down.specs.Down.{beyond}
@@ -147,7 +147,7 @@ module _ (y c : ℕ) where
       omega (arith, length_many (b - c) (omega arith) (omega arith))
 
   -- the window is the same
-  pub window_held : (n m : ℕ) (r : Window) → n + c ≡ 63 → 2 ≤ width m → width m ≤ bit_length x → WindowOf 63 m y (bit_length y) r → WindowOf n m x (bit_length x) r
+  pub window_held : (n m : ℕ) (r : WindowDigit) → n + c ≡ 63 → 2 ≤ width m → width m ≤ bit_length x → WindowOf 63 m y (bit_length y) r → WindowOf n m x (bit_length x) r
   window_held n m r e h l made =
       let b : ℕ = bit_length x in
       let W : ℕ = width m in

@@ -21,7 +21,7 @@ use Rattle.digits.specs.Scalar.Length.{below_length, length_least}
 use Rattle.digits.specs.Scalar.Zeros.{odd_part}
 use Rattle.forms.specs.Residue.{width}
 use Rattle.forms.specs.Residue.Width.{width_least, width_is}
-use Rattle.down.specs.declared.window.Window.{Window}
+use Rattle.down.specs.declared.window.WindowDigit.{WindowDigit}
 use Rattle.down.specs.Body.Window.{size_of, width_of, WindowOf}
 use Rattle.down.specs.Down.{beyond}
 
@@ -91,7 +91,7 @@ module _ (m x b most : ℕ) (one : 1 ≤ m) (few : m ≤ 31) (is : b ≡ bit_len
     pub half_some : 1 ≤ w → (n : ℕ) → n ≡ (x / 2 ^ low + 1) / 2 → 0 < n
     half_some h n e = omega (arith, half_is n e, size_some x b w is h (omega arith))
 
-  module _ (n : ℕ) (r : Window) (size : n ≡ (x / 2 ^ (63 - most) + 1) / 2) (made : (r.taken ≡ most) × ((n ≡ 2 ^ r.zeros * r.odd) × (r.odd % 2 ≡ 1))) where
+  module _ (n : ℕ) (r : WindowDigit) (size : n ≡ (x / 2 ^ (63 - most) + 1) / 2) (made : (r.taken ≡ most) × ((n ≡ 2 ^ r.zeros * r.odd) × (r.odd % 2 ≡ 1))) where
     wide : n ≡ size_of x b W
     wide = half_is (63 - most) W (omega arith) n size
 
@@ -109,7 +109,7 @@ module _ (m x b most : ℕ) (one : 1 ≤ m) (few : m ≤ 31) (is : b ≡ bit_len
           odd = made.1.1;
         }
 
-    pub window_narrow : m < r.odd → (k : ℕ) (s : Window) → k ≡ (x / 2 ^ (64 - most) + 1) / 2 → (s.taken ≡ most - 1) × ((k ≡ 2 ^ s.zeros * s.odd) × (s.odd % 2 ≡ 1)) → WindowOf 63 m x b s
+    pub window_narrow : m < r.odd → (k : ℕ) (s : WindowDigit) → k ≡ (x / 2 ^ (64 - most) + 1) / 2 → (s.taken ≡ most - 1) × ((k ≡ 2 ^ s.zeros * s.odd) × (s.odd % 2 ≡ 1)) → WindowOf 63 m x b s
     window_narrow l k s e again =
         let less : width_of m x b ≡ W - 1 = ap (λ (c : Bool). cond c (W - 1) W) (beyond_is ∙ lt-ltb m r.odd l) in
         record {

@@ -4,8 +4,7 @@ pub mod Row
 use Rattle.std.specs.Prelude.{◌≡◌, List, ℕ, ℤ}
 use Rattle.digits.specs.declared.limits.Limits.{Limits}
 use Rattle.digits.specs.Scalar.{signed_scalar}
-use Rattle.recode.specs.Call.{answer_with, buffer_with, RowBy, PromisedBy}
-use Rattle.recode.specs.declared.answer.Recoded.{Recoded}
+use Rattle.recode.specs.Call.{Recoded, answer_with, buffer_with, RowBy, PromisedBy}
 use Rattle.down.specs.Down.{down}
 
 -- the answer: the first question missed, or the row's length and weight

@@ -3,39 +3,22 @@ ghost use Rattle.digits.specs.Limits.{gateway};
 ghost use Rattle.digits.specs.Scalar.{bit_length};
 ghost use Rattle.down.specs.Body.Ahead.{four, eight, turned, Filled, Folded};
 
-// 2^63, and 2^64 − 1: the highest one of 64 bits, and all of them.
-const HIGHEST: u64 = 9223372036854775808;
-
-const ALL_BITS: u64 = 18446744073709551615;
-
 // 2^32.
 const WORD: u64 = 4294967296;
-
-// A byte as a wider number.
-fn wide(byte: u8) -> u32
-    ensures { (result ≡ byte) × (result < 256) }
-{
-    byte as u32
-}
 
 // Four bytes as one number, the most significant first.
 fn four_at(scalar: &[u8], at: usize) -> u32
     requires { at + 3 < length scalar.now }
     ensures { result ≡ four scalar.now at }
 {
-    let high = 256 * wide(scalar[at]) + wide(scalar[at + 1]);
-    let low = 256 * wide(scalar[at + 2]) + wide(scalar[at + 3]);
-    65536 * high + low
+    u32::from_be_bytes([scalar[at], scalar[at + 1], scalar[at + 2], scalar[at + 3]])
 }
 
-// The byte at a place, and 0 past the end.
+// The byte at a place, and 0 past the end. (The bytes of recode are taken from the lowest on, and as numbers of 64 bits.)
 fn byte_at(scalar: &[u8], at: usize) -> u32
     ensures { (result ≡ get_or scalar.now at 0) × (result < 256) }
 {
-    if at < scalar.len() {
-        return wide(scalar[at]);
-    }
-    0
+    u32::from(scalar.get(at).copied().unwrap_or(0))
 }
 
 // Four bytes as one number, with zeros past the end.
@@ -56,14 +39,14 @@ fn eight_at(scalar: &[u8], at: usize) -> u64
     requires { at + 4 ≤ 2 * gateway.bytes }
     ensures { result ≡ eight scalar.now at }
 {
-    WORD * (word_at(scalar, at) as u64) + word_at(scalar, at + 4) as u64
+    WORD * u64::from(word_at(scalar, at)) + u64::from(word_at(scalar, at + 4))
 }
 
 // Eight bytes as they are, or with every bit turned for a minus.
 fn eight_with(eight: u64, sign: u32) -> u64
     ensures { (result ≡ turned sign 64 eight) × (result < 2 ^ 64) }
 {
-    if sign == 0 { eight } else { ALL_BITS - eight }
+    if sign == 0 { eight } else { !eight }
 }
 
 // The bits of a scalar that were read and not yet taken, turned for a minus: the `held` highest of `bits`, and zeros below them. The next
@@ -83,7 +66,7 @@ impl Bits {
         Bits {
             at: 0,
             held: 1,
-            bits: if sign == 0 { 0 } else { HIGHEST },
+            bits: if sign == 0 { 0 } else { 1 << 63 },
         }
     }
 
@@ -113,10 +96,10 @@ impl Bits {
     pub fn folded(self) -> u64
         ensures { Folded self.bits result }
     {
-        if self.bits < HIGHEST {
+        if self.bits < 1 << 63 {
             self.bits
         } else {
-            ALL_BITS - self.bits
+            !self.bits
         }
     }
 
@@ -137,12 +120,12 @@ impl Bits {
 pub fn bits_of(n: u32) -> u32
     ensures { result ≡ bit_length n }
 {
-    32 - u32::leading_zeros(n)
+    32 - n.leading_zeros()
 }
 
 // How many of 64 bits stand above the bits of a number.
 pub fn zeros_above(n: u64) -> u32
     ensures { result + bit_length n ≡ 64 }
 {
-    u64::leading_zeros(n)
+    n.leading_zeros()
 }

@@ -5,4 +5,4 @@ mod bits;
 mod rows;
 mod window;
 
-pub use rows::{gateway_row_down, row_down};
+pub use rows::row_down;

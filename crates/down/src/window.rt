@@ -6,9 +6,10 @@ ghost use Rattle.digits.specs.Scalar.{bit_length};
 ghost use Rattle.forms.specs.Residue.{width};
 ghost use Rattle.down.specs.Body.Window.{WindowOf};
 
-// A window below equal bits: how many places they take with it, and the size of what it is worth, an odd number above some zeros.
+// The digit of a window below equal bits: how many places the window takes with them, and the size of what it is worth, an odd number
+// above some zeros.
 #[derive(Clone, Copy)]
-pub struct Window {
+pub struct WindowDigit {
     pub taken: u32,
     pub zeros: u32,
     pub odd: u32,
@@ -23,21 +24,21 @@ fn half_of(x: u64, low: u32) -> u32
 }
 
 // A window by the size of what it is worth.
-fn sized(taken: u32, size: u32) -> Window
+fn sized(taken: u32, size: u32) -> WindowDigit
     requires { 0 < size }
     ensures { (result.taken ≡ taken) × ((size ≡ 2 ^ result.zeros * result.odd) × (result.odd % 2 ≡ 1)) }
 {
-    let zeros = u32::trailing_zeros(size);
-    Window {
-        taken: taken,
-        zeros: zeros,
+    let zeros = size.trailing_zeros();
+    WindowDigit {
+        taken,
+        zeros,
         odd: size >> zeros,
     }
 }
 
 // The window of the top bits of x below the equal bits of 64: `most` places are taken with the width W, and one fewer where the digit is
 // beyond m.
-pub fn window_of(x: u64, most: u32, m: u32) -> Window
+pub fn window_of(x: u64, most: u32, m: u32) -> WindowDigit
     requires most { (most ≤ 63) × (most + bit_length x ≡ 63 + width m) }
     requires window { (1 ≤ m) × (m ≤ widest) }
     ensures { WindowOf 63 m x (bit_length x) result }
@@ -49,7 +50,7 @@ pub fn window_of(x: u64, most: u32, m: u32) -> Window
     wide
 }
 
-// The byte of a digit, by its size and its sign.
+// The byte of a digit, by its size and its sign. (The call of digits takes the digit with its sign, which no value here has.)
 pub fn byte_of(size: u32, sign: u32) -> u8
     requires { (1 ≤ size) × (size ≤ 32) }
     ensures { result ≡ byte_of (signed_by sign (pos size)) }
@@ -57,6 +58,6 @@ pub fn byte_of(size: u32, sign: u32) -> u8
     if sign == 0 {
         size as u8
     } else {
-        (256 - size) as u8
+        (size as u8).wrapping_neg()
     }
 }

@@ -1,19 +1,21 @@
 -- What a call tells the C host: one number of 64 bits; and the parts of it that sheets.h takes out again.
 pub mod Parts
 pub mod Lines
-use Rattle.std.specs.Prelude.{ℕ, ◌+◌, ◌*◌, ◌/◌, ◌%◌, ◌^◌, ◌<◌}
-use Rattle.chooser.specs.Next as Choosing
-use Rattle.chooser.specs.declared.next.NextLimit.{NextLimit}
-use Rattle.dearest.specs.Call as Dear
-use Rattle.dearest.specs.declared.answer.Dearest.{Dearest}
-use Rattle.packing.specs.Call as Packs
-use Rattle.packing.specs.declared.answer.Packing.{Packing}
-use Rattle.recode.specs.Call as Recoding
-use Rattle.recode.specs.declared.answer.Recoded.{Recoded}
-use Rattle.writer.specs.Call as Writing
+use Rattle.std.specs.Prelude.{ℕ, ◌+◌, ◌*◌, ◌/◌, ◌%◌, ◌^◌, ◌<◌, Result, Ok, Err, Some, None, IfSome, MatchResult}
+use Rattle.std.specs.declared.option.Option.{Option}
+use Rattle.digits.specs.Missed as Asked
+use Rattle.digits.specs.declared.missed.Missed.{Missed}
+use Rattle.recode.specs.Call.{Recoded}
+use Rattle.recode.specs.declared.answer.Written.{Written}
+use Rattle.writer.specs.Call.{SheetAnswer}
 use Rattle.writer.specs.declared.answer.Sheet.{Sheet}
-use Rattle.reader.specs.declared.judge.Judgement.{Judgement}
-use Rattle.reader.specs.declared.judge.Judgement.TheVariants.{Accepted, Refused}
+use Rattle.chooser.specs.Next.{NextLimit}
+use Rattle.chooser.specs.declared.next.Pays.{Pays}
+use Rattle.dearest.specs.Call as Dear
+use Rattle.packing.specs.Call as Packs
+use Rattle.sheet.specs.Answer.{Answer, accepted, refused}
+use Rattle.survey.specs.Question as Survey
+use Rattle.survey.specs.declared.fault.Fault.{Fault}
 
 -- a number in bits 32 to 63, and the rest below it
 abbrev pub numbered : ℕ → ℕ → ℕ
@@ -28,48 +30,98 @@ pub record Fits (length count : ℕ) : Type 0 where
   pub length_fits : length < 2 ^ 16
   pub count_fits : count < 2 ^ 16
 
--- a row or a joint form: the number of the question missed, 0 where none is; the length, and the weight
+-- ── the parts of an answer ──────────────────────────────────────────────────────────────────
+
+-- a question missed: its number, and nothing below it
+abbrev pub told_missed : Missed → ℕ
+told_missed e = numbered (Asked.number e) 0
+
+-- a question of the reader: its number, and the line at fault
+abbrev pub told_fault : Fault → ℕ
+told_fault f = numbered (Survey.number f.question) f.line
+
+abbrev pub FaultFits : Fault → Type 0
+FaultFits f = f.line < 2 ^ 32
+
+-- digits that were written: the length, and the weight
+abbrev pub told_written : Written → ℕ
+told_written w = joined w.length w.weight
+
+abbrev pub WrittenFits : Written → Type 0
+WrittenFits w = Fits w.length w.weight
+
+-- a sheet that was written: the length, and the additions
+abbrev pub told_sized : Sheet → ℕ
+told_sized s = joined s.length s.additions
+
+abbrev pub SizeFits : Sheet → Type 0
+SizeFits s = Fits s.length s.additions
+
+-- a limit that pays: the limit, and the additions there
+abbrev pub told_paying : Pays → ℕ
+told_paying p = joined p.limit p.additions
+
+abbrev pub PaysFits : Pays → Type 0
+PaysFits p = Fits p.limit p.additions
+
+-- what is told of a value, or of an error
+abbrev pub told_either : {A E : Type 0} → (A → ℕ) → (E → ℕ) → Result A E → ℕ
+told_either value error (Ok x) = value x
+told_either value error (Err e) = error e
+
+-- what is told of a value, 0 where there is none
+abbrev pub told_any : {A : Type 0} → (A → ℕ) → Option A → ℕ
+told_any value None = 0
+told_any value (Some x) = value x
+
+-- ── answers ─────────────────────────────────────────────────────────────────────────────────
+
+-- a row or a joint form: the number of the question missed; or the length, and the weight
 abbrev pub told_recoded : Recoded → ℕ
-told_recoded r = numbered (Recoding.number r) (joined (Recoding.places_written r) (Recoding.weight_written r))
+told_recoded = told_either told_written told_missed
 
 abbrev pub RecodedFits : Recoded → Type 0
-RecodedFits r = Fits (Recoding.places_written r) (Recoding.weight_written r)
+RecodedFits r = MatchResult r WrittenFits (λ e. Unit {0})
 
--- a sheet: the number; the length, and the additions
-abbrev pub told_sheet : Sheet → ℕ
-told_sheet s = numbered (Writing.number s) (joined (Writing.bytes_written s) (Writing.additions s))
+-- a sheet: the number; or the length, and the additions
+abbrev pub told_sheet : SheetAnswer → ℕ
+told_sheet = told_either told_sized told_missed
 
-abbrev pub SheetFits : Sheet → Type 0
-SheetFits s = Fits (Writing.bytes_written s) (Writing.additions s)
+abbrev pub SheetFits : SheetAnswer → Type 0
+SheetFits s = MatchResult s SizeFits (λ e. Unit {0})
 
--- the next limit: the number; the limit that pays, and the additions there, both 0 for none
+-- the next limit: the number; or the limit that pays, and the additions there, both 0 for none
 abbrev pub told_next : NextLimit → ℕ
-told_next n = numbered (Choosing.next_number n) (joined (Choosing.limit_told n) (Choosing.additions_told n))
+told_next = told_either (told_any told_paying) told_missed
 
 abbrev pub NextFits : NextLimit → Type 0
-NextFits n = Fits (Choosing.limit_told n) (Choosing.additions_told n)
+NextFits n = MatchResult n (λ o. IfSome o PaysFits) (λ e. Unit {0})
 
--- the dearest scalar: the number, and below it how many digits are not 0
-abbrev pub told_dearest : Dearest → ℕ
-told_dearest d = numbered (Dear.number d) (Dear.most_told d)
+-- the dearest scalar: the number; or how many digits are not 0
+abbrev pub told_dearest : Dear.Dearest → ℕ
+told_dearest = told_either (λ most. most) told_missed
 
 -- the number of the reader's question that is missed, 0 where none is
-abbrev pub number : Judgement → ℕ
-number Accepted = 0
-number (Refused n at) = n
+abbrev pub number : Answer → ℕ
+number accepted = 0
+number (refused n at) = n
 
 -- the line at fault, 0 where none is
-abbrev pub line : Judgement → ℕ
-line Accepted = 0
-line (Refused n at) = at
+abbrev pub line : Answer → ℕ
+line accepted = 0
+line (refused n at) = at
 
 -- the reader: both
-abbrev pub told_judgement : Judgement → ℕ
-told_judgement j = numbered (number j) (line j)
+abbrev pub told_judgement : Answer → ℕ
+told_judgement a = numbered (number a) (line a)
+
+-- what the reader's call answers, as far as it must fit
+abbrev pub ReadFits : Result (Unit {0}) Fault → Type 0
+ReadFits r = MatchResult r (λ met. Unit {0}) FaultFits
 
 -- columns packed or unpacked: the number, and nothing below it
-abbrev pub told_packing : Packing → ℕ
-told_packing p = numbered (Packs.number p) 0
+abbrev pub told_packing : Packs.Answer → ℕ
+told_packing = told_either (λ done. 0) told_missed
 
 -- ── the parts, by the names that sheets.h has for them ──────────────────────────────────────
 

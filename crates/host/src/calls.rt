@@ -10,27 +10,38 @@ ghost use Rattle.chooser.specs.Next.{next_answer};
 ghost use Rattle.dearest.specs.Call.{dearest_answer, dearest_buffer};
 ghost use Rattle.packing.specs.Call.{pack_answer, pack_buffer, unpack_answer, unpack_buffer};
 ghost use Rattle.sheet.specs.Answer.{answer};
-ghost use Rattle.reader.specs.Judgement.{judgement};
 ghost use Rattle.host.specs.Told.{told_recoded, told_sheet, told_next, told_dearest, told_judgement, told_packing};
 
+use crate::machine::Tells;
+use crate::told::Told;
+use digits::Scalar;
+use recode::Recode;
+use survey::Surveyor;
+use writer::WriteSheet;
+
+// In these calls a scalar and its sign stand apart, as C passes them.
+
 // The row of a scalar for the window m.
-pub fn sheets_row(scalar: &[u8], sign: u32, m: u32, digits: &mut [u8]) -> u64
-    ensures answer { result ≡ told_recoded (row_answer card scalar.now sign m (length digits.old)) }
-    ensures buffer { digits.new ≡ row_buffer card scalar.now sign m digits.old }
+#[tactic(auto, using(crate::specs::Told::Parts::row_fits))]
+pub fn row<M: Recode + Tells>(scalar: &[u8], sign: u32, m: u32, digits: &mut [u8]) -> u64
+    ensures answer { result ≡ told_recoded (row_answer M.LIMITS scalar.now sign m (length digits.old)) }
+    ensures buffer { digits.new ≡ row_buffer M.LIMITS scalar.now sign m digits.old }
 {
-    crate::told::recoded(recode::row(scalar, sign, m, digits))
+    M::row(Scalar::new(scalar, sign), m, digits).to_bits()
 }
 
 // The row of a scalar for the window m, from the top down.
-pub fn sheets_row_down(scalar: &[u8], sign: u32, m: u32, digits: &mut [u8]) -> u64
-    ensures answer { result ≡ told_recoded (down_answer card scalar.now sign m (length digits.old)) }
-    ensures buffer { digits.new ≡ down_buffer card scalar.now sign m digits.old }
+#[tactic(auto, using(crate::specs::Told::Parts::down_fits))]
+pub fn row_down<M: Tells>(scalar: &[u8], sign: u32, m: u32, digits: &mut [u8]) -> u64
+    ensures answer { result ≡ told_recoded (down_answer M.LIMITS scalar.now sign m (length digits.old)) }
+    ensures buffer { digits.new ≡ down_buffer M.LIMITS scalar.now sign m digits.old }
 {
-    crate::told::recoded(down::row_down(scalar, sign, m, digits))
+    down::row_down::<M>(Scalar::new(scalar, sign), m, digits).to_bits()
 }
 
 // The joint sparse form of two scalars.
-pub fn sheets_joint(
+#[tactic(auto, using(crate::specs::Told::Parts::joint_fits))]
+pub fn joint<M: Recode + Tells>(
     k: &[u8],
     k_sign: u32,
     l: &[u8],
@@ -38,15 +49,18 @@ pub fn sheets_joint(
     k_digits: &mut [u8],
     l_digits: &mut [u8],
 ) -> u64
-    ensures answer { result ≡ told_recoded (joint_answer card k.now k_sign l.now l_sign (length k_digits.old) (length l_digits.old)) }
-    ensures first { k_digits.new ≡ joint_buffer card P k.now k_sign l.now l_sign k_digits.old l_digits.old }
-    ensures second { l_digits.new ≡ joint_buffer card Q k.now k_sign l.now l_sign k_digits.old l_digits.old }
+    ensures answer { result ≡ told_recoded (joint_answer M.LIMITS k.now k_sign l.now l_sign (length k_digits.old) (length l_digits.old)) }
+    ensures first { k_digits.new ≡ joint_buffer M.LIMITS P k.now k_sign l.now l_sign k_digits.old l_digits.old }
+    ensures second { l_digits.new ≡ joint_buffer M.LIMITS Q k.now k_sign l.now l_sign k_digits.old l_digits.old }
 {
-    crate::told::recoded(recode::joint(k, k_sign, l, l_sign, k_digits, l_digits))
+    let k = Scalar::new(k, k_sign);
+    let l = Scalar::new(l, l_sign);
+    M::joint(k, l, k_digits, l_digits).to_bits()
 }
 
 // The joint sparse form of two scalars, and beside each row the codes of its digits.
-pub fn sheets_joint_codes(
+#[tactic(auto, using(crate::specs::Told::Parts::codes_fits))]
+pub fn joint_codes<M: Recode + Tells>(
     k: &[u8],
     k_sign: u32,
     l: &[u8],
@@ -56,27 +70,41 @@ pub fn sheets_joint_codes(
     k_codes: &mut [u8],
     l_codes: &mut [u8],
 ) -> u64
-    ensures answer { result ≡ told_recoded (codes_answer card k.now k_sign l.now l_sign (length k_digits.old) (length l_digits.old) (length k_codes.old) (length l_codes.old)) }
-    ensures first { k_digits.new ≡ codes_digits card P k.now k_sign l.now l_sign k_digits.old l_digits.old k_codes.old l_codes.old }
-    ensures second { l_digits.new ≡ codes_digits card Q k.now k_sign l.now l_sign k_digits.old l_digits.old k_codes.old l_codes.old }
-    ensures first_codes { k_codes.new ≡ codes_buffer card P k.now k_sign l.now l_sign k_digits.old l_digits.old k_codes.old l_codes.old }
-    ensures second_codes { l_codes.new ≡ codes_buffer card Q k.now k_sign l.now l_sign k_digits.old l_digits.old k_codes.old l_codes.old }
+    ensures answer { result ≡ told_recoded (codes_answer M.LIMITS k.now k_sign l.now l_sign (length k_digits.old) (length l_digits.old) (length k_codes.old) (length l_codes.old)) }
+    ensures first { k_digits.new ≡ codes_digits M.LIMITS P k.now k_sign l.now l_sign k_digits.old l_digits.old k_codes.old l_codes.old }
+    ensures second { l_digits.new ≡ codes_digits M.LIMITS Q k.now k_sign l.now l_sign k_digits.old l_digits.old k_codes.old l_codes.old }
+    ensures first_codes { k_codes.new ≡ codes_buffer M.LIMITS P k.now k_sign l.now l_sign k_digits.old l_digits.old k_codes.old l_codes.old }
+    ensures second_codes { l_codes.new ≡ codes_buffer M.LIMITS Q k.now k_sign l.now l_sign k_digits.old l_digits.old k_codes.old l_codes.old }
 {
-    crate::told::recoded(codes::joint_codes(
-        k, k_sign, l, l_sign, k_digits, l_digits, k_codes, l_codes,
-    ))
+    codes::joint_codes::<M>(
+        Scalar::new(k, k_sign),
+        Scalar::new(l, l_sign),
+        k_digits,
+        l_digits,
+        k_codes,
+        l_codes,
+    )
+    .to_bits()
 }
 
 // The sheet of plan J.
-pub fn sheets_plan_j(k: &[u8], k_sign: u32, l: &[u8], l_sign: u32, sheet: &mut [u8]) -> u64
-    ensures answer { result ≡ told_sheet (j_answer card k.now k_sign l.now l_sign (length sheet.old)) }
-    ensures buffer { sheet.new ≡ j_buffer card k.now k_sign l.now l_sign sheet.old }
+#[tactic(auto, using(crate::specs::Told::Parts::j_fits))]
+pub fn plan_j<M: WriteSheet + Tells>(
+    k: &[u8],
+    k_sign: u32,
+    l: &[u8],
+    l_sign: u32,
+    sheet: &mut [u8],
+) -> u64
+    ensures answer { result ≡ told_sheet (j_answer M.LIMITS k.now k_sign l.now l_sign (length sheet.old)) }
+    ensures buffer { sheet.new ≡ j_buffer M.LIMITS k.now k_sign l.now l_sign sheet.old }
 {
-    crate::told::written(writer::plan_j(k, k_sign, l, l_sign, sheet))
+    M::plan_j(Scalar::new(k, k_sign), Scalar::new(l, l_sign), sheet).to_bits()
 }
 
 // The sheet of plan I with the windows m1 for P and m2 for Q.
-pub fn sheets_plan_i(
+#[tactic(auto, using(crate::specs::Told::Parts::i_fits))]
+pub fn plan_i<M: WriteSheet + Tells>(
     k: &[u8],
     k_sign: u32,
     l: &[u8],
@@ -85,14 +113,17 @@ pub fn sheets_plan_i(
     m2: u32,
     sheet: &mut [u8],
 ) -> u64
-    ensures answer { result ≡ told_sheet (i_answer card k.now k_sign l.now l_sign m1 m2 (length sheet.old)) }
-    ensures buffer { sheet.new ≡ i_buffer card k.now k_sign l.now l_sign m1 m2 sheet.old }
+    ensures answer { result ≡ told_sheet (i_answer M.LIMITS k.now k_sign l.now l_sign m1 m2 (length sheet.old)) }
+    ensures buffer { sheet.new ≡ i_buffer M.LIMITS k.now k_sign l.now l_sign m1 m2 sheet.old }
 {
-    crate::told::written(writer::plan_i(k, k_sign, l, l_sign, m1, m2, sheet))
+    let k = Scalar::new(k, k_sign);
+    let l = Scalar::new(l, l_sign);
+    M::plan_i(k, l, m1, m2, sheet).to_bits()
 }
 
 // The same from rows that are worked out from the top down.
-pub fn sheets_plan_i_down(
+#[tactic(auto, using(crate::specs::Told::Parts::i_down_fits))]
+pub fn plan_i_down<M: WriteSheet + Tells>(
     k: &[u8],
     k_sign: u32,
     l: &[u8],
@@ -101,14 +132,17 @@ pub fn sheets_plan_i_down(
     m2: u32,
     sheet: &mut [u8],
 ) -> u64
-    ensures answer { result ≡ told_sheet (i_down_answer card k.now k_sign l.now l_sign m1 m2 (length sheet.old)) }
-    ensures buffer { sheet.new ≡ i_down_buffer card k.now k_sign l.now l_sign m1 m2 sheet.old }
+    ensures answer { result ≡ told_sheet (i_down_answer M.LIMITS k.now k_sign l.now l_sign m1 m2 (length sheet.old)) }
+    ensures buffer { sheet.new ≡ i_down_buffer M.LIMITS k.now k_sign l.now l_sign m1 m2 sheet.old }
 {
-    crate::told::written(writer::plan_i_down(k, k_sign, l, l_sign, m1, m2, sheet))
+    let k = Scalar::new(k, k_sign);
+    let l = Scalar::new(l, l_sign);
+    M::plan_i_down(k, l, m1, m2, sheet).to_bits()
 }
 
 // The cheapest sheet for k and l that needs no more slots than the limit.
-pub fn sheets_cheapest(
+#[tactic(auto, using(crate::specs::Told::Parts::cheapest_fits))]
+pub fn cheapest<M: WriteSheet + Tells>(
     k: &[u8],
     k_sign: u32,
     l: &[u8],
@@ -116,47 +150,49 @@ pub fn sheets_cheapest(
     limit: u32,
     sheet: &mut [u8],
 ) -> u64
-    ensures answer { result ≡ told_sheet (cheapest_answer card k.now k_sign l.now l_sign limit (length sheet.old)) }
-    ensures buffer { sheet.new ≡ cheapest_buffer card k.now k_sign l.now l_sign limit sheet.old }
+    ensures answer { result ≡ told_sheet (cheapest_answer M.LIMITS k.now k_sign l.now l_sign limit (length sheet.old)) }
+    ensures buffer { sheet.new ≡ cheapest_buffer M.LIMITS k.now k_sign l.now l_sign limit sheet.old }
 {
-    crate::told::written(chooser::cheapest(k, k_sign, l, l_sign, limit, sheet))
+    chooser::cheapest::<M>(Scalar::new(k, k_sign), Scalar::new(l, l_sign), limit, sheet).to_bits()
 }
 
-// The smallest larger limit, up to 31, at which the cheapest sheet has fewer additions.
-pub fn sheets_next_limit(k: &[u8], k_sign: u32, l: &[u8], l_sign: u32, limit: u32) -> u64
+// The smallest larger limit, up to 31, at which the cheapest sheet has fewer additions, at the card.
+#[tactic(auto, using(crate::specs::Told::Parts::next_fits))]
+pub fn next_limit(k: &[u8], k_sign: u32, l: &[u8], l_sign: u32, limit: u32) -> u64
     ensures answer { result ≡ told_next (next_answer card k.now k_sign l.now l_sign limit) }
 {
-    crate::told::next(chooser::next_limit(k, k_sign, l, l_sign, limit))
+    chooser::next_limit(Scalar::new(k, k_sign), Scalar::new(l, l_sign), limit).to_bits()
 }
 
 // The smallest scalar of so many bits whose row with window 1 has the most digits that are not 0.
-pub fn sheets_dearest(bits: u32, scalar: &mut [u8]) -> u64
+pub fn dearest(bits: u32, scalar: &mut [u8]) -> u64
     ensures answer { result ≡ told_dearest (dearest_answer bits (length scalar.old)) }
     ensures buffer { scalar.new ≡ dearest_buffer bits scalar.old }
 {
-    crate::told::dearest(dearest::dearest(bits, scalar))
+    dearest::dearest(bits, scalar).to_bits()
 }
 
 // Reads a sheet: accepted, or the first question that it misses.
-pub fn sheets_read(sheet: &[u8]) -> u64
-    ensures answer { result ≡ told_judgement (judgement (answer card sheet.now)) }
+#[tactic(auto, using(crate::specs::Told::Parts::read_fits))]
+pub fn read<M: Surveyor<LIMBS> + Tells, const LIMBS: usize>(sheet: &[u8]) -> u64
+    ensures answer { result ≡ told_judgement (answer M.LIMITS sheet.now) }
 {
-    crate::told::judged(reader::read(sheet))
+    reader::read::<M, LIMBS>(sheet).to_bits()
 }
 
 // So many columns of two rows, a byte for each.
-pub fn sheets_pack(columns: usize, k_digits: &[u8], l_digits: &[u8], packed: &mut [u8]) -> u64
+pub fn pack(columns: usize, k_digits: &[u8], l_digits: &[u8], packed: &mut [u8]) -> u64
     ensures answer { result ≡ told_packing (pack_answer columns k_digits.now l_digits.now (length packed.old)) }
     ensures buffer { packed.new ≡ pack_buffer columns k_digits.now l_digits.now packed.old }
 {
-    crate::told::packing(packing::pack(columns, k_digits, l_digits, packed))
+    packing::pack(columns, k_digits, l_digits, packed).to_bits()
 }
 
 // The two rows of so many bytes.
-pub fn sheets_unpack(columns: usize, packed: &[u8], k_digits: &mut [u8], l_digits: &mut [u8]) -> u64
+pub fn unpack(columns: usize, packed: &[u8], k_digits: &mut [u8], l_digits: &mut [u8]) -> u64
     ensures answer { result ≡ told_packing (unpack_answer columns packed.now (length k_digits.old) (length l_digits.old)) }
     ensures first { k_digits.new ≡ unpack_buffer P columns packed.now k_digits.old l_digits.old }
     ensures second { l_digits.new ≡ unpack_buffer Q columns packed.now k_digits.old l_digits.old }
 {
-    crate::told::packing(packing::unpack(columns, packed, k_digits, l_digits))
+    packing::unpack(columns, packed, k_digits, l_digits).to_bits()
 }

@@ -1,80 +1,130 @@
-ghost use Rattle.std.specs.Prelude.{◌≡◌, ◌^◌, ◌<◌};
-ghost use Rattle.host.specs.Told.{numbered, joined, Fits, told_recoded, RecodedFits, told_sheet, SheetFits, told_next, NextFits, told_dearest, line, told_judgement, told_packing};
+ghost use Rattle.std.specs.Prelude.{◌≡◌, ℕ, ◌<◌, ◌^◌, IfSome, MatchResult};
+ghost use Rattle.host.specs.Told.{numbered, joined, Fits, WrittenFits, SizeFits, PaysFits, FaultFits, told_either, told_any, told_missed, told_fault, told_written, told_sized, told_paying};
 
-use chooser::NextLimit;
-use dearest::Dearest;
-use packing::Packing;
-use reader::Judgement;
-use recode::Recoded;
+use chooser::Pays;
+use digits::Missed;
+use recode::Written;
+use survey::Fault;
 use writer::Sheet;
 
-// What is told of a row or a joint form.
-pub fn recoded(answer: Recoded) -> u64
-    requires { RecodedFits answer }
-    ensures { result ≡ told_recoded answer }
-{
-    numbered(answer.number(), join(answer.places(), answer.weight()))
+// What C is told: one number, with the number of the question missed in its high half.
+pub trait Told {
+    ghost told: { Self → ℕ };
+    // Each part fits its bits.
+    ghost fits: { Self → Type 0 };
+
+    fn to_bits(self) -> u64
+        requires { fits self }
+        ensures { result ≡ told self };
 }
 
-// What is told of a sheet.
-pub fn written(answer: Sheet) -> u64
-    requires { SheetFits answer }
-    ensures { result ≡ told_sheet answer }
-{
-    numbered(
-        answer.number(),
-        join(answer.bytes(), answer.additions() as usize),
-    )
-}
+impl<T: Told, E: Told> Told for Result<T, E> {
+    ghost told = { told_either T.told E.told };
 
-// What is told of the next limit that pays.
-pub fn next(answer: NextLimit) -> u64
-    requires { NextFits answer }
-    ensures { result ≡ told_next answer }
-{
-    numbered(
-        answer.number(),
-        join(answer.limit() as usize, answer.additions() as usize),
-    )
-}
+    ghost fits = { λ r. MatchResult r T.fits E.fits };
 
-// What is told of the dearest scalar.
-pub fn dearest(answer: Dearest) -> u64
-    ensures { result ≡ told_dearest answer }
-{
-    numbered(answer.number(), answer.most() as usize)
-}
-
-// What is told of a sheet that was read.
-pub fn judged(answer: Judgement) -> u64
-    requires { line answer < 2 ^ 32 }
-    ensures { result ≡ told_judgement answer }
-{
-    match answer {
-        Judgement::Accepted => numbered(0, 0),
-        Judgement::Refused(number, line) => numbered(number, line),
+    fn to_bits(self) -> u64 {
+        match self {
+            Ok(value) => value.to_bits(),
+            Err(error) => error.to_bits(),
+        }
     }
 }
 
-// What is told of columns that were to be packed or unpacked.
-pub fn packing(answer: Packing) -> u64
-    ensures { result ≡ told_packing answer }
-{
-    numbered(answer.number(), 0)
+impl<T: Told> Told for Option<T> {
+    ghost told = { told_any T.told };
+
+    ghost fits = { λ o. IfSome o T.fits };
+
+    fn to_bits(self) -> u64 {
+        match self {
+            Some(value) => value.to_bits(),
+            None => 0,
+        }
+    }
+}
+
+impl Told for () {
+    ghost told = { λ u. 0 };
+
+    ghost fits = { λ u. Unit {0} };
+
+    fn to_bits(self) -> u64 {
+        0
+    }
+}
+
+impl Told for u32 {
+    ghost told = { λ n. n };
+
+    ghost fits = { λ n. Unit {0} };
+
+    fn to_bits(self) -> u64 {
+        u64::from(self)
+    }
+}
+
+impl Told for Missed {
+    ghost told = { told_missed };
+
+    ghost fits = { λ e. Unit {0} };
+
+    fn to_bits(self) -> u64 {
+        numbered(self.number(), 0)
+    }
+}
+
+impl Told for Fault {
+    ghost told = { told_fault };
+
+    ghost fits = { FaultFits };
+
+    fn to_bits(self) -> u64 {
+        numbered(self.question.number(), self.line as u32)
+    }
+}
+
+impl Told for Written {
+    ghost told = { told_written };
+
+    ghost fits = { WrittenFits };
+
+    fn to_bits(self) -> u64 {
+        join(self.length as u64, self.weight as u64)
+    }
+}
+
+impl Told for Sheet {
+    ghost told = { told_sized };
+
+    ghost fits = { SizeFits };
+
+    fn to_bits(self) -> u64 {
+        join(self.length as u64, u64::from(self.additions))
+    }
+}
+
+impl Told for Pays {
+    ghost told = { told_paying };
+
+    ghost fits = { PaysFits };
+
+    fn to_bits(self) -> u64 {
+        join(u64::from(self.limit), self.additions)
+    }
 }
 
 // A length or a limit in bits 0 to 15, and what is counted in bits 16 to 31.
-fn join(length: usize, count: usize) -> usize
+fn join(length: u64, count: u64) -> u64
     requires { Fits length count }
-    ensures { (result ≡ joined length count) × (result < 2 ^ 32) }
+    ensures { result ≡ joined length count }
 {
     count * 65536 + length
 }
 
 // The number of the question missed in bits 32 to 63, and the rest of the answer below it.
-fn numbered(number: u32, rest: usize) -> u64
-    requires { rest < 2 ^ 32 }
+fn numbered(number: u32, rest: u32) -> u64
     ensures { result ≡ numbered number rest }
 {
-    number as u64 * 4294967296 + rest as u64
+    u64::from(number) * 4294967296 + u64::from(rest)
 }

@@ -10,8 +10,9 @@ ghost use Rattle.chooser.specs.Next.{next_answer};
 ghost use Rattle.dearest.specs.Call.{dearest_answer, dearest_buffer};
 ghost use Rattle.packing.specs.Call.{pack_answer, pack_buffer, unpack_answer, unpack_buffer};
 ghost use Rattle.sheet.specs.Answer.{answer};
-ghost use Rattle.reader.specs.Judgement.{judgement};
 ghost use Rattle.host.specs.Told.{told_recoded, told_sheet, told_next, told_dearest, told_judgement, told_packing};
+
+use digits::Card;
 
 // The row of a scalar for the window m.
 #[unsafe(no_mangle)]
@@ -19,7 +20,7 @@ pub extern "C" fn sheets_row(scalar: &[u8], sign: u32, m: u32, digits: &mut [u8]
     ensures answer { result ≡ told_recoded (row_answer card scalar.now sign m (length digits.old)) }
     ensures buffer { digits.new ≡ row_buffer card scalar.now sign m digits.old }
 {
-    host::sheets_row(scalar, sign, m, digits)
+    host::row::<Card>(scalar, sign, m, digits)
 }
 
 // The row of a scalar for the window m, from the top down.
@@ -28,7 +29,7 @@ pub extern "C" fn sheets_row_down(scalar: &[u8], sign: u32, m: u32, digits: &mut
     ensures answer { result ≡ told_recoded (down_answer card scalar.now sign m (length digits.old)) }
     ensures buffer { digits.new ≡ down_buffer card scalar.now sign m digits.old }
 {
-    host::sheets_row_down(scalar, sign, m, digits)
+    host::row_down::<Card>(scalar, sign, m, digits)
 }
 
 // The joint sparse form of two scalars.
@@ -45,7 +46,7 @@ pub extern "C" fn sheets_joint(
     ensures first { k_digits.new ≡ joint_buffer card P k.now k_sign l.now l_sign k_digits.old l_digits.old }
     ensures second { l_digits.new ≡ joint_buffer card Q k.now k_sign l.now l_sign k_digits.old l_digits.old }
 {
-    host::sheets_joint(k, k_sign, l, l_sign, k_digits, l_digits)
+    host::joint::<Card>(k, k_sign, l, l_sign, k_digits, l_digits)
 }
 
 // The joint sparse form of two scalars, and beside each row the codes of its digits.
@@ -66,7 +67,7 @@ pub extern "C" fn sheets_joint_codes(
     ensures first_codes { k_codes.new ≡ codes_buffer card P k.now k_sign l.now l_sign k_digits.old l_digits.old k_codes.old l_codes.old }
     ensures second_codes { l_codes.new ≡ codes_buffer card Q k.now k_sign l.now l_sign k_digits.old l_digits.old k_codes.old l_codes.old }
 {
-    host::sheets_joint_codes(k, k_sign, l, l_sign, k_digits, l_digits, k_codes, l_codes)
+    host::joint_codes::<Card>(k, k_sign, l, l_sign, k_digits, l_digits, k_codes, l_codes)
 }
 
 // The sheet of plan J.
@@ -81,7 +82,7 @@ pub extern "C" fn sheets_plan_j(
     ensures answer { result ≡ told_sheet (j_answer card k.now k_sign l.now l_sign (length sheet.old)) }
     ensures buffer { sheet.new ≡ j_buffer card k.now k_sign l.now l_sign sheet.old }
 {
-    host::sheets_plan_j(k, k_sign, l, l_sign, sheet)
+    host::plan_j::<Card>(k, k_sign, l, l_sign, sheet)
 }
 
 // The sheet of plan I with the windows m1 for P and m2 for Q.
@@ -98,7 +99,7 @@ pub extern "C" fn sheets_plan_i(
     ensures answer { result ≡ told_sheet (i_answer card k.now k_sign l.now l_sign m1 m2 (length sheet.old)) }
     ensures buffer { sheet.new ≡ i_buffer card k.now k_sign l.now l_sign m1 m2 sheet.old }
 {
-    host::sheets_plan_i(k, k_sign, l, l_sign, m1, m2, sheet)
+    host::plan_i::<Card>(k, k_sign, l, l_sign, m1, m2, sheet)
 }
 
 // The same from rows that are worked out from the top down.
@@ -115,7 +116,7 @@ pub extern "C" fn sheets_plan_i_down(
     ensures answer { result ≡ told_sheet (i_down_answer card k.now k_sign l.now l_sign m1 m2 (length sheet.old)) }
     ensures buffer { sheet.new ≡ i_down_buffer card k.now k_sign l.now l_sign m1 m2 sheet.old }
 {
-    host::sheets_plan_i_down(k, k_sign, l, l_sign, m1, m2, sheet)
+    host::plan_i_down::<Card>(k, k_sign, l, l_sign, m1, m2, sheet)
 }
 
 // The cheapest sheet for k and l that needs no more slots than the limit.
@@ -131,7 +132,7 @@ pub extern "C" fn sheets_cheapest(
     ensures answer { result ≡ told_sheet (cheapest_answer card k.now k_sign l.now l_sign limit (length sheet.old)) }
     ensures buffer { sheet.new ≡ cheapest_buffer card k.now k_sign l.now l_sign limit sheet.old }
 {
-    host::sheets_cheapest(k, k_sign, l, l_sign, limit, sheet)
+    host::cheapest::<Card>(k, k_sign, l, l_sign, limit, sheet)
 }
 
 // The smallest larger limit, up to 31, at which the cheapest sheet has fewer additions.
@@ -139,7 +140,7 @@ pub extern "C" fn sheets_cheapest(
 pub extern "C" fn sheets_next_limit(k: &[u8], k_sign: u32, l: &[u8], l_sign: u32, limit: u32) -> u64
     ensures answer { result ≡ told_next (next_answer card k.now k_sign l.now l_sign limit) }
 {
-    host::sheets_next_limit(k, k_sign, l, l_sign, limit)
+    host::next_limit(k, k_sign, l, l_sign, limit)
 }
 
 // The smallest scalar of so many bits whose row with window 1 has the most digits that are not 0.
@@ -148,15 +149,15 @@ pub extern "C" fn sheets_dearest(bits: u32, scalar: &mut [u8]) -> u64
     ensures answer { result ≡ told_dearest (dearest_answer bits (length scalar.old)) }
     ensures buffer { scalar.new ≡ dearest_buffer bits scalar.old }
 {
-    host::sheets_dearest(bits, scalar)
+    host::dearest(bits, scalar)
 }
 
 // Reads a sheet: accepted, or the first question that it misses.
 #[unsafe(no_mangle)]
 pub extern "C" fn sheets_read(sheet: &[u8]) -> u64
-    ensures answer { result ≡ told_judgement (judgement (answer card sheet.now)) }
+    ensures answer { result ≡ told_judgement (answer card sheet.now) }
 {
-    host::sheets_read(sheet)
+    host::read::<Card, _>(sheet)
 }
 
 // So many columns of two rows, a byte for each.
@@ -170,7 +171,7 @@ pub extern "C" fn sheets_pack(
     ensures answer { result ≡ told_packing (pack_answer columns k_digits.now l_digits.now (length packed.old)) }
     ensures buffer { packed.new ≡ pack_buffer columns k_digits.now l_digits.now packed.old }
 {
-    host::sheets_pack(columns, k_digits, l_digits, packed)
+    host::pack(columns, k_digits, l_digits, packed)
 }
 
 // The two rows of so many bytes.
@@ -185,5 +186,5 @@ pub extern "C" fn sheets_unpack(
     ensures first { k_digits.new ≡ unpack_buffer P columns packed.now k_digits.old l_digits.old }
     ensures second { l_digits.new ≡ unpack_buffer Q columns packed.now k_digits.old l_digits.old }
 {
-    host::sheets_unpack(columns, packed, k_digits, l_digits)
+    host::unpack(columns, packed, k_digits, l_digits)
 }

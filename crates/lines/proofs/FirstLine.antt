@@ -15,7 +15,8 @@ use Rattle.sheet.specs.Spelling.Cut.{lines_none}
 use Rattle.sheet.specs.Spelling.Field.{First, is_whole, whole_of}
 use Rattle.lines.specs.Coded.{coded_header, coded_heading, heading_of, opening_of, Opened, head_field, ScalarIn}
 use Rattle.lines.specs.declared.header.Header as header_of
-use Rattle.lines.specs.declared.header.Heading as heading
+use Rattle.std.specs.declared.option.Option.TheVariants.{Some, None}
+use Rattle.lines.proofs.AsRead.{read_some, read_none}
 use Rattle.lines.proofs.LineAt.{lines_at, lines_end}
 use Rattle.lines.proofs.HeaderRead.{scalar_read, never, headed}
 
@@ -84,14 +85,6 @@ head_scalars limits s h ls e =
 
 -- ── the first line ──────────────────────────────────────────────────────────────────────────
 
-heading_read : (o : Option spec.Header) (u : header_of.Header) → coded_heading o ≡ heading.TheVariants.Is u → (h : spec.Header) × (o ≡ some h) × (u ≡ coded_header h)
-heading_read none u e = let z : ◌≡◌ {A = ℕ} 0 1 = cc in absurd (omega arith)
-heading_read (some h) u e = (h, refl, cc)
-
-heading_lost : (o : Option spec.Header) → coded_heading o ≡ heading.TheVariants.None → o ≡ none
-heading_lost none e = refl
-heading_lost (some h) e = let z : ◌≡◌ {A = ℕ} 0 1 = cc in absurd (omega arith)
-
 is_header : (x : spec.Line) (h : spec.Header) → heading_of x ≡ some h → x ≡ header h
 is_header (header y) h e = let i : y ≡ h = cc in ap header i
 is_header (table t) h e = never e
@@ -106,9 +99,9 @@ module _ (limits : Limits) (s : List ℕ) (n : ℕ) (f : First line_feed s n) wh
     first_line : lines limits s ≡ read_line limits (take n s) ∷ lines limits (drop (n + 1) s)
     first_line = let next : 0 + n + 1 ≡ n + 1 = omega arith in lines_at limits s 0 n f w ∙ ap (λ (m : ℕ). read_line limits (take n s) ∷ lines limits (drop m s)) next
 
-    pub opened : (u : header_of.Header) → heading.TheVariants.Is u ≡ coded_heading (heading_of (read_line limits (take n s))) → Opened limits s u (n + 1)
+    pub opened : (u : header_of.Header) → Some u ≡ coded_heading (heading_of (read_line limits (take n s))) → Opened limits s u (n + 1)
     opened u e =
-        let (h, i, j) = heading_read (heading_of (read_line limits (take n s))) u (sym e) in
+        let (h, i, j) = read_some (heading_of (read_line limits (take n s))) e in
         record {
           h = h;
           is = j;
@@ -117,8 +110,8 @@ module _ (limits : Limits) (s : List ℕ) (n : ℕ) (f : First line_feed s n) wh
           within = omega arith;
         }
 
-    pub unheaded : heading.TheVariants.None ≡ coded_heading (heading_of (read_line limits (take n s))) → opening_of (lines limits s) ≡ none
-    unheaded e = ap opening_of first_line ∙ heading_lost (heading_of (read_line limits (take n s))) (sym e)
+    pub unheaded : None ≡ coded_heading (heading_of (read_line limits (take n s))) → opening_of (lines limits s) ≡ none
+    unheaded e = ap opening_of first_line ∙ read_none coded_header (heading_of (read_line limits (take n s))) e
 
   pub unended : length s ≤ n → opening_of (lines limits s) ≡ none
   unended w = go s refl

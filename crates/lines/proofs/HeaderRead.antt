@@ -1,92 +1,111 @@
 -- What the parsers of a header answer, from the fields that they read.
 use mathlib.Core.Path.{◌≡◌, refl, sym, ap, ◌∙◌}
-use mathlib.Core.Logic.{◌≢◌}
-use mathlib.Core.Bool.{Bool, true, false, cond}
-use mathlib.Core.List.{List, []}
+use mathlib.Core.Bool.{Bool, true, false, cond, ◌&&◌}
+use mathlib.Core.List.{List, [], ◌∷◌}
 use mathlib.Core.Option.{Option, none, some}
 use Prim.Native.Nat.{ℕ}
 use native.Mathlib.Omega.{arith}
 use lib.Dec.{eqb}
+use lib.IntN.{ℤ}
 use lib.ListN.{length, get_or}
-use borrow.Author.Tests.{eq-eqb, ne_eqb}
 use Rattle.digits.specs.declared.limits.Limits.{Limits}
 use Rattle.sheet.specs.Plan.{Point}
 use Rattle.sheet.specs.Line as spec
 use Rattle.sheet.specs.Line.{joint, interleaved, header, table, load, double, add, end, misspelled}
-use Rattle.sheet.specs.Spelling.{comma, cut, letter, read_kind, read_decimal, read_scalar, read_point, read_header, made, sized, read_behind, read_line}
-use Rattle.sheet.specs.Spelling.Field.{is_whole, whole_of}
+use Rattle.sheet.specs.Spelling.{◌>>=◌, comma, cut, letter, read_kind, read_decimal, read_scalar, read_point, read_header, made, sized, read_behind, read_line}
+use Rattle.sheet.specs.Spelling.Field.{is_whole, whole_of, decimal_of}
 use Rattle.sheet.proofs.SignTurns.{whole_value}
-use Rattle.lines.specs.Coded.{kind_of, is_joint, coded_heading, heading_of}
-use Rattle.lines.specs.declared.header.Heading as heading
+use Rattle.std.specs.Option.{SomeIff, option_and_then, option_eq}
+use Rattle.std.specs.declared.option.Option as declared
+use Rattle.std.specs.declared.option.Option.TheVariants.{Some, None}
+use Rattle.lines.specs.Coded.{coded_kind, coded_heading, heading_of}
+use Rattle.lines.specs.declared.header.Kind as kind_type
+use Rattle.lines.specs.declared.header.Header as header_of
+
+-- a field that is no byte has no letter
+pub letter_none : (f : List ℕ) → ¬ (length f ≡ 1) → letter f ≡ 0
+letter_none [] n = refl
+letter_none (c ∷ []) n = absurd (n refl)
+letter_none (c ∷ d ∷ f) n = refl
 
 -- a scalar, by the test of its field
 pub scalar_read : (limits : Limits) (f : List ℕ) (b : Bool) → is_whole 16 limits.figures f ≡ b → read_scalar limits f ≡ cond b (some (whole_of 16 f)) none
 scalar_read limits f b e = whole_value 16 limits.figures (omega arith) (omega arith) f ∙ ap (λ (t : Bool). cond t (some (whole_of 16 f)) none) e
 
--- a header, field by field
-module _ (limits : Limits) (fs : List (List ℕ)) (joint : Bool) (kind : read_kind (get_or fs 1 []) ≡ some (kind_of joint)) where
-  pub header_2 : read_decimal (get_or fs 2 []) ≡ none → heading.TheVariants.None ≡ coded_heading (read_header limits fs)
+-- a header of what was read
+abbrev read_as_header : Option spec.Kind → Option ℕ → Option ℕ → Option ℕ → Option ℕ → Option ℕ → Option ℤ → Option ℤ → Option spec.Header
+read_as_header kind m1 m2 slots additions doublings k l = do
+  kind ← kind
+  m1 ← m1
+  m2 ← m2
+  slots ← slots
+  additions ← additions
+  doublings ← doublings
+  k ← k
+  l ← l
+  some (record { kind = kind; m1 = m1; m2 = m2; slots = slots; additions = additions; doublings = doublings; k = k; l = l })
+
+-- the same in the code's form, where the two scalars are tested
+abbrev header_as : declared.Option kind_type.Kind → declared.Option ℕ → declared.Option ℕ → declared.Option ℕ → declared.Option ℕ → declared.Option ℕ → Bool → declared.Option header_of.Header
+header_as kind m1 m2 slots additions doublings scalars =
+    option_and_then
+    (λ kind.
+    option_and_then
+    (λ m1.
+    option_and_then
+    (λ m2.
+    option_and_then
+    (λ slots.
+    option_and_then
+    (λ additions.
+    option_and_then
+    (λ doublings.
+    cond scalars (Some (record { kind = kind; m1 = m1; m2 = m2; slots = slots; additions = additions; doublings = doublings })) None)
+    doublings)
+    additions)
+    slots)
+    m2)
+    m1)
+    kind
+
+-- a scalar that passed its test, or none
+abbrev tested : Bool → ℤ → Option ℤ
+tested b z = cond b (some z) none
+
+header_form : (kind : Option spec.Kind) (m1 m2 slots additions doublings : Option ℕ) (a b : Bool) (k l : ℤ)
+    → header_as (coded_kind kind) (decimal_of m1) (decimal_of m2) (decimal_of slots) (decimal_of additions) (decimal_of doublings) (a && b)
+    ≡ coded_heading (read_as_header kind m1 m2 slots additions doublings (tested a k) (tested b l))
+header_form none m1 m2 slots additions doublings a b k l = refl
+header_form (some x) none m2 slots additions doublings a b k l = refl
+header_form (some x) (some m1) none slots additions doublings a b k l = refl
+header_form (some x) (some m1) (some m2) none additions doublings a b k l = refl
+header_form (some x) (some m1) (some m2) (some slots) none doublings a b k l = refl
+header_form (some x) (some m1) (some m2) (some slots) (some additions) none a b k l = refl
+header_form (some x) (some m1) (some m2) (some slots) (some additions) (some doublings) false b k l = refl
+header_form (some x) (some m1) (some m2) (some slots) (some additions) (some doublings) true false k l = refl
+header_form (some x) (some m1) (some m2) (some slots) (some additions) (some doublings) true true k l = refl
+
+module _ (limits : Limits) (fs : List (List ℕ)) where
+  abbrev field : ℕ → List ℕ
+  field k = get_or fs k []
+
+  abbrev scalar : ℕ → Bool
+  scalar k = is_whole 16 limits.figures (field k)
+
+  -- the header of the fields, by what each of them was read as
+  pub header_is : {kind : declared.Option kind_type.Kind} {m1 m2 slots additions doublings : declared.Option ℕ} {scalars : Bool}
+      → kind ≡ coded_kind (read_kind (field 1))
+      → m1 ≡ decimal_of (read_decimal (field 2))
+      → m2 ≡ decimal_of (read_decimal (field 3))
+      → slots ≡ decimal_of (read_decimal (field 4))
+      → additions ≡ decimal_of (read_decimal (field 5))
+      → doublings ≡ decimal_of (read_decimal (field 6))
+      → scalars ≡ (scalar 7 && scalar 8)
+      → header_as kind m1 m2 slots additions doublings scalars ≡ coded_heading (read_header limits fs)
   unfolding read_header
-  header_2 e = rw (kind, e)
-
-  module _ (m1 : ℕ) (e2 : read_decimal (get_or fs 2 []) ≡ some m1) where
-    pub header_3 : read_decimal (get_or fs 3 []) ≡ none → heading.TheVariants.None ≡ coded_heading (read_header limits fs)
-    unfolding read_header
-    header_3 e = rw (kind, e2, e)
-
-    module _ (m2 : ℕ) (e3 : read_decimal (get_or fs 3 []) ≡ some m2) where
-      pub header_4 : read_decimal (get_or fs 4 []) ≡ none → heading.TheVariants.None ≡ coded_heading (read_header limits fs)
-      unfolding read_header
-      header_4 e = rw (kind, e2, e3, e)
-
-      module _ (slots : ℕ) (e4 : read_decimal (get_or fs 4 []) ≡ some slots) where
-        pub header_5 : read_decimal (get_or fs 5 []) ≡ none → heading.TheVariants.None ≡ coded_heading (read_header limits fs)
-        unfolding read_header
-        header_5 e = rw (kind, e2, e3, e4, e)
-
-        module _ (additions : ℕ) (e5 : read_decimal (get_or fs 5 []) ≡ some additions) where
-          pub header_6 : read_decimal (get_or fs 6 []) ≡ none → heading.TheVariants.None ≡ coded_heading (read_header limits fs)
-          unfolding read_header
-          header_6 e = rw (kind, e2, e3, e4, e5, e)
-
-          module _ (doublings : ℕ) (e6 : read_decimal (get_or fs 6 []) ≡ some doublings) where
-            pub header_7 : is_whole 16 limits.figures (get_or fs 7 []) ≡ false → heading.TheVariants.None ≡ coded_heading (read_header limits fs)
-            unfolding read_header
-            header_7 e = rw (kind, e2, e3, e4, e5, e6, scalar_read limits (get_or fs 7 []) false e)
-
-            module _ (e7 : is_whole 16 limits.figures (get_or fs 7 []) ≡ true) where
-              pub header_8 : is_whole 16 limits.figures (get_or fs 8 []) ≡ false → heading.TheVariants.None ≡ coded_heading (read_header limits fs)
-              unfolding read_header
-              header_8 e =
-                  rw (kind, e2, e3, e4, e5, e6, scalar_read limits (get_or fs 7 []) true e7, scalar_read limits (get_or fs 8 []) false e)
-
-              joint_kind : is_joint (kind_of joint) ≡ joint
-              joint_kind = go joint
-                where
-                  go : (b : Bool) → is_joint (kind_of b) ≡ b
-                  go true = refl
-                  go false = refl
-
-              pub header_all : is_whole 16 limits.figures (get_or fs 8 []) ≡ true
-                  → heading.TheVariants.Is (record { joint = joint; m1 = m1; m2 = m2; slots = slots; additions = additions; doublings = doublings })
-                  ≡ coded_heading (read_header limits fs)
-              unfolding read_header
-              header_all e =
-                  rw (kind, e2, e3, e4, e5, e6, scalar_read limits (get_or fs 7 []) true e7, scalar_read limits (get_or fs 8 []) true e, joint_kind)
-
-pub heading_none : (limits : Limits) (fs : List (List ℕ)) → read_kind (get_or fs 1 []) ≡ none → heading.TheVariants.None ≡ coded_heading (read_header limits fs)
-unfolding read_header
-heading_none limits fs e = rw e
-
--- the kind of a header, by its letter
-pub kind_joint : (f : List ℕ) → letter f ≡ 74 → read_kind f ≡ some joint
-kind_joint f e = rw e
-
-pub kind_interleaved : (f : List ℕ) → letter f ≡ 73 → read_kind f ≡ some interleaved
-kind_interleaved f e = rw e
-
-pub kind_none : (f : List ℕ) → letter f ≢ 74 → letter f ≢ 73 → read_kind f ≡ none
-kind_none f j i = rw (ne_eqb (letter f) 74 j, ne_eqb (letter f) 73 i)
+  header_is e1 e2 e3 e4 e5 e6 e7 =
+      rw (e1, e2, e3, e4, e5, e6, e7, scalar_read limits (field 7) (scalar 7) refl, scalar_read limits (field 8) (scalar 8) refl)
+      (header_form (read_kind (field 1)) (read_decimal (field 2)) (read_decimal (field 3)) (read_decimal (field 4)) (read_decimal (field 5)) (read_decimal (field 6)) (scalar 7) (scalar 8) (whole_of 16 (field 7)) (whole_of 16 (field 8)))
 
 pub never : {A : Type 0} {h : spec.Header} → ◌≡◌ {A = Option spec.Header} none (some h) → A
 never e = let z : ◌≡◌ {A = ℕ} 0 1 = cc in absurd (omega arith)
@@ -135,26 +154,24 @@ headed limits c fs h = go (eqb c 83)
     go false e = never (sym (others c fs) ∙ e)
 
 -- the header of a line, by its letter and the number of its fields
-module _ (limits : Limits) (s : List ℕ) (c : ℕ) (e : c ≡ letter (get_or (cut comma s) 0 [])) where
-  behind : heading_of (read_behind limits c (cut comma s)) ≡ heading_of (read_line limits s)
+module _ (limits : Limits) (s : List ℕ) where
+  by_letter : (c : ℕ) (b : Bool) → eqb c 83 ≡ b → heading_of (read_behind limits c (cut comma s)) ≡ cond (b && eqb (length (cut comma s)) 9) (read_header limits (cut comma s)) none
+  unfolding read_behind
+  by_letter c true i = rw i (go (eqb (length (cut comma s)) 9) (read_header limits (cut comma s)))
+    where
+      go : (b : Bool) (o : Option spec.Header) → heading_of (cond b (made header o) misspelled) ≡ cond b o none
+      go true none = refl
+      go true (some h) = refl
+      go false o = refl
+  by_letter c false i = rw i (others c (cut comma s))
+
+  by_field : (r : declared.Option ℕ) → SomeIff r (length (get_or (cut comma s) 0 []) ≡ 1) (letter (get_or (cut comma s) 0 []))
+      → heading_of (read_line limits s) ≡ cond (option_eq eqb r (Some 83) && eqb (length (cut comma s)) 9) (read_header limits (cut comma s)) none
   unfolding read_line
-  behind = ap (λ (n : ℕ). heading_of (read_behind limits n (cut comma s))) e
+  by_field None n = rw (letter_none (get_or (cut comma s) 0 []) n) (by_letter 0 false refl)
+  by_field (Some c) (one, e) = rw (← e) (by_letter c (eqb c 83) refl)
 
-  sized_heading : (b : Bool) (o : Option spec.Header) → heading_of (cond b (made header o) misspelled) ≡ cond b o none
-  sized_heading true none = refl
-  sized_heading true (some h) = refl
-  sized_heading false o = refl
-
-  of_s : c ≡ 83 → heading_of (read_line limits s) ≡ cond (eqb (length (cut comma s)) 9) (read_header limits (cut comma s)) none
-  unfolding read_behind
-  of_s i = sym behind ∙ rw i (sized_heading (eqb (length (cut comma s)) 9) (read_header limits (cut comma s)))
-
-  pub heads_nine : c ≡ 83 → length (cut comma s) ≡ 9 → heading_of (read_line limits s) ≡ read_header limits (cut comma s)
-  heads_nine i n = of_s i ∙ rw (eq-eqb (length (cut comma s)) 9 n)
-
-  pub heads_short : c ≡ 83 → length (cut comma s) ≢ 9 → heading_of (read_line limits s) ≡ none
-  heads_short i n = of_s i ∙ rw (ne_eqb (length (cut comma s)) 9 n)
-
-  pub heads_other : c ≢ 83 → heading_of (read_line limits s) ≡ none
-  unfolding read_behind
-  heads_other i = sym behind ∙ rw (ne_eqb c 83 i) (others c (cut comma s))
+  -- f is the first field, r its letter
+  pub heads : (f : List ℕ) (r : declared.Option ℕ) (b : Bool) → f ≡ get_or (cut comma s) 0 [] → SomeIff r (length f ≡ 1) (letter f)
+      → b ≡ (option_eq eqb r (Some 83) && eqb (length (cut comma s)) 9) → cond b (read_header limits (cut comma s)) none ≡ heading_of (read_line limits s)
+  heads f r b first known e = rw e (sym (by_field r (rw first at known)))

@@ -1,4 +1,5 @@
 -- Laws that the functions' proofs cite.
+pub mod AsRead
 pub mod PointRead
 pub mod HeaderRead
 pub mod LineRead

@@ -89,6 +89,3 @@ Found s at l next = (at < length s → (limits : Limits) → 1 ≤ limits.figure
 module _ {s : List ℕ} {at next : ℕ} {l : Line} where
   pub line_inside : ((limits : Limits) → 1 ≤ limits.figures → Took limits s at l next) → Found s at l next
   line_inside t = (λ h. t, λ h. let k = t card (omega arith) in absurd (omega (arith, k.later, k.within)))
-
-  pub line_past : length s ≤ at → l ≡ Other → next ≡ length s → Found s at l next
-  line_past h e f = (λ g. absurd (omega arith), λ g. record { is = e; end = f })

@@ -18,19 +18,8 @@ use Rattle.sheet.specs.Spelling.{comma, cut, letter, read_point, read_header, ma
 use Rattle.sheet.specs.Spelling.Cut.{cut_some}
 use Rattle.sheet.specs.Spelling.Field.{First}
 use Rattle.sheet.proofs.CutTurns.{first_last, first_part, first_zero}
-use Rattle.lines.specs.Coded.{coded_point, coded_pair, coded, pointed, stepped}
-use Rattle.lines.specs.declared.point.Pair as pair
-use Rattle.lines.specs.declared.line.Line.TheVariants.{Table, Load, Double, Add, End, Other}
-
--- a pair that was read
-pub pair_some : (o : Option Point) (t : Rattle.lines.specs.declared.point.Point.Point) → coded_pair o ≡ pair.TheVariants.Is t
-    → (x : Point) × (o ≡ some x) × (t ≡ coded_point x)
-pair_some none t e = let z : ◌≡◌ {A = ℕ} 0 1 = cc in absurd (omega arith)
-pair_some (some x) t e = (x, refl, cc)
-
-pub pair_none : (o : Option Point) → coded_pair o ≡ pair.TheVariants.None → o ≡ none
-pair_none none e = refl
-pair_none (some x) e = let z : ◌≡◌ {A = ℕ} 0 1 = cc in absurd (omega arith)
+use Rattle.lines.specs.Coded.{coded, pointed, stepped}
+use Rattle.lines.specs.declared.line.Line.TheVariants.{Double, End, Other}
 
 -- the line of a letter and the fields
 module _ (limits : Limits) (c : ℕ) (fs : List (List ℕ)) where
@@ -143,6 +132,11 @@ module _ (limits : Limits) (s : List ℕ) (n c : ℕ) (f : First comma s n) (e :
   line_headed : c ≡ 83 → coded (read_line limits s) ≡ Other
   line_headed k = ap coded (sym line_first) ∙ coded_s limits c (cut comma s) k
 
+  -- there is no letter
+  pub coded_none : c ≡ 0 → Other ≡ coded (read_line limits s)
+  unfolding read_behind
+  coded_none z = ap coded (rw z at line_first)
+
   -- the line by its letter
   pub coded_more : n < length s → coded (stepped c (cut comma (drop (n + 1) s))) ≡ coded (read_line limits s)
   coded_more h = go (eqb c 83) refl
@@ -184,20 +178,3 @@ module _ (s : List ℕ) (n c : ℕ) (f : First comma s n) where
 
     pub stepped_two : length (drop (n + 1) s) ≤ m → pointed c (read_point ([] ∷ take n s ∷ drop (n + 1) s ∷ [])) ≡ stepped c (cut comma s)
     stepped_two k = ap (stepped c) (sym (first_two ∙ ap (λ (l : List (List ℕ)). take n s ∷ l) (first_last g k)))
-
--- the line of a letter and a pair
-pub step_none : (c : ℕ) (o : Option Point) → o ≡ none → Other ≡ coded (pointed c o)
-step_none c o e = rw e
-
-module _ (c : ℕ) (o : Option Point) (t : Rattle.lines.specs.declared.point.Point.Point) (r : (x : Point) × (o ≡ some x) × (t ≡ coded_point x)) where
-  pub step_table : c ≡ 84 → Table t ≡ coded (pointed c o)
-  step_table e = rw (r.1, r.2, e)
-
-  pub step_load : c ≡ 76 → Load t ≡ coded (pointed c o)
-  step_load e = rw (r.1, r.2, e)
-
-  pub step_add : c ≡ 65 → Add t ≡ coded (pointed c o)
-  step_add e = rw (r.1, r.2, e)
-
-  pub step_other : c ≢ 84 → c ≢ 76 → c ≢ 65 → Other ≡ coded (pointed c o)
-  step_other x y z = rw (r.1, ne_eqb c 84 x, ne_eqb c 76 y, ne_eqb c 65 z)

@@ -8,26 +8,20 @@ use Rattle.sheet.specs.Line as spec
 use Rattle.sheet.specs.Line.{Kind, joint, interleaved, header, table, load, double, add, end, misspelled}
 use Rattle.sheet.specs.Spelling.{line_feed, comma, cut, read_point, lines}
 use Rattle.sheet.specs.Spelling.Field.{is_whole}
-use Rattle.sheet.specs.declared.figures.Decimal.{Decimal}
-use Rattle.sheet.specs.declared.figures.Decimal as decimal
+use Rattle.std.specs.declared.option.Option as declared
+use Rattle.std.specs.declared.option.Option.TheVariants.{Some, None}
 use Rattle.lines.specs.declared.point.Signed.{Signed}
-use Rattle.lines.specs.declared.point.Digit.{Digit}
-use Rattle.lines.specs.declared.point.Digit as digit
 use Rattle.lines.specs.declared.point.Point as point_type
-use Rattle.lines.specs.declared.point.Pair.{Pair}
-use Rattle.lines.specs.declared.point.Pair as pair
+use Rattle.lines.specs.declared.header.Kind as kind_type
 use Rattle.lines.specs.declared.header.Header as header_of
-use Rattle.lines.specs.declared.header.Heading.{Heading}
-use Rattle.lines.specs.declared.header.Heading as heading
 use Rattle.lines.specs.declared.header.Opening.{Opening}
-use Rattle.lines.specs.declared.header.Opening as opening
 use Rattle.lines.specs.declared.line.Line.{Line}
 use Rattle.lines.specs.declared.line.Line.TheVariants.{Table, Load, Double, Add, End, Other}
 
--- a decimal, as the definitions have it
-abbrev pub option_of : Decimal → Option ℕ
-option_of (decimal.TheVariants.Is n) = some n
-option_of decimal.TheVariants.None = none
+-- what was read, if anything, in the form that the code has for it
+abbrev pub as_read : {A B : Type 0} → (A → B) → Option A → declared.Option B
+as_read form none = None
+as_read form (some a) = Some (form a)
 
 -- a whole number by its sign and its size
 abbrev pub signed : ℤ → Signed
@@ -43,9 +37,8 @@ abbrev pub whole : Signed → ℤ
 whole s = number_of s.negative s.size
 
 -- a digit that was read
-abbrev pub coded_digit : Option ℤ → Digit
-coded_digit none = digit.TheVariants.None
-coded_digit (some z) = digit.TheVariants.Is (signed z)
+abbrev pub coded_digit : Option ℤ → declared.Option Signed
+coded_digit o = as_read signed o
 
 -- a point
 abbrev pub coded_point : Point → point_type.Point
@@ -54,24 +47,26 @@ coded_point t = record { p = signed t.p; q = signed t.q }
 abbrev pub point_of : point_type.Point → Point
 point_of t = point (whole t.p) (whole t.q)
 
-abbrev pub coded_pair : Option Point → Pair
-coded_pair none = pair.TheVariants.None
-coded_pair (some t) = pair.TheVariants.Is (coded_point t)
+abbrev pub coded_pair : Option Point → declared.Option point_type.Point
+coded_pair o = as_read coded_point o
 
 -- the kind of a header
-abbrev pub kind_of : Bool → Kind
-kind_of true = joint
-kind_of false = interleaved
+abbrev pub kind_of : kind_type.Kind → Kind
+kind_of kind_type.TheVariants.Joint = joint
+kind_of kind_type.TheVariants.Interleaved = interleaved
 
-abbrev pub is_joint : Kind → Bool
-is_joint joint = true
-is_joint interleaved = false
+abbrev pub kind_as : Kind → kind_type.Kind
+kind_as joint = kind_type.TheVariants.Joint
+kind_as interleaved = kind_type.TheVariants.Interleaved
+
+abbrev pub coded_kind : Option Kind → declared.Option kind_type.Kind
+coded_kind o = as_read kind_as o
 
 -- a header, without its scalars
 abbrev pub coded_header : spec.Header → header_of.Header
 coded_header h =
     record {
-      joint = is_joint h.kind;
+      kind = kind_as h.kind;
       m1 = h.m1;
       m2 = h.m2;
       slots = h.slots;
@@ -79,9 +74,8 @@ coded_header h =
       doublings = h.doublings;
     }
 
-abbrev pub coded_heading : Option spec.Header → Heading
-coded_heading none = heading.TheVariants.None
-coded_heading (some h) = heading.TheVariants.Is (coded_header h)
+abbrev pub coded_heading : Option spec.Header → declared.Option header_of.Header
+coded_heading o = as_read coded_header o
 
 -- a line, where a header has no place
 abbrev pub coded : spec.Line → Line
@@ -145,9 +139,9 @@ pub record Opened (limits : Limits) (s : List ℕ) (head : header_of.Header) (ne
   pub within : next ≤ length s
 
 -- it does, or it begins with none
-abbrev pub Opens : Limits → List ℕ → Opening → Type 0
-Opens limits s (opening.TheVariants.Is head next) = Opened limits s head next
-Opens limits s opening.TheVariants.None = opening_of (lines limits s) ≡ none
+abbrev pub Opens : Limits → List ℕ → declared.Option Opening → Type 0
+Opens limits s (Some o) = Opened limits s o.header o.next
+Opens limits s None = opening_of (lines limits s) ≡ none
 
 -- a field of the first line of the sheet s, and that it is a scalar of as many figures as the limits allow
 abbrev pub head_field : List ℕ → ℕ → List ℕ

@@ -6,6 +6,6 @@ mod line;
 mod point;
 mod short;
 
-pub use header::{Header, Opening, head_field, opening_of};
+pub use header::{Header, Kind, Opening, head_field, opening_of};
 pub use line::{LINE_FEED, Line, Taken, line_at};
 pub use point::{Point, Signed};

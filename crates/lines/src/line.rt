@@ -1,19 +1,19 @@
 ghost use Rattle.std.specs.Prelude.{◌≡◌, true, ◌<◌, ◌≤◌, length};
-ghost use Rattle.std.proofs.Math.Option.{Option};
+ghost use Rattle.std.proofs.Math.Option.{some};
 ghost use Rattle.digits.specs.declared.limits.Limits.{Limits};
 ghost use Rattle.sheet.specs.Plan as meant;
 ghost use Rattle.sheet.specs.Spelling.{comma, cut, read_line};
-ghost use Rattle.lines.specs.Coded.{coded_pair, coded, pointed, stepped, Doubles, Took, Past};
+ghost use Rattle.lines.specs.Coded.{coded_point, coded, pointed, stepped, Doubles, Took, Past};
 
-use crate::point::{Pair, Point};
+use crate::point::Point;
 use crate::short::MOST_BYTES;
+use sheet::fields::COMMA;
 
+// The byte that ends a line.
 pub const LINE_FEED: u8 = b'\n';
 
-pub const COMMA: u8 = b',';
-
-// A line of the sheet; the last case is a header line or one that is misspelled.
-#[derive(Clone, Copy)]
+// A line of the sheet; the last case is a header line or one that is misspelled: a case like the rest, which a question answers, and no Option.
+#[derive(Clone, Copy, PartialEq, Eq)]
 pub enum Line {
     Table(Point),
     Load(Point),
@@ -23,7 +23,7 @@ pub enum Line {
     Other,
 }
 
-// A line, and where the next one begins.
+// A line, and where the next one begins: both always stand, also past the end, so no Option.
 #[derive(Clone, Copy)]
 pub struct Taken {
     pub line: Line,
@@ -35,18 +35,17 @@ pub fn line_of(s: &[u8]) -> Line
     ensures { (limits : Limits) → result ≡ coded (read_line limits s.now) }
 {
     let end = sheet::fields::find(s, COMMA);
-    let letter = sheet::fields::letter_of(&s[..end]);
+    let Some(letter) = sheet::fields::letter_of(&s[..end]) else {
+        return Line::Other;
+    };
     if end < s.len() {
-        let from = end + 1;
-        return step_line(&s[from..], letter);
+        return step_line(&s[end + 1..], letter);
     }
-    if letter == b'D' {
-        return Line::Double;
+    match letter {
+        b'D' => Line::Double,
+        b'E' => Line::End,
+        _ => Line::Other,
     }
-    if letter == b'E' {
-        return Line::End;
-    }
-    Line::Other
 }
 
 // The line of a letter and the fields behind it, which are to be two.
@@ -55,46 +54,35 @@ fn step_line(s: &[u8], letter: u8) -> Line
 {
     let end = sheet::fields::find(s, COMMA);
     if end < s.len() {
-        let from = end + 1;
-        let last = &s[from..];
+        let last = &s[end + 1..];
         if sheet::fields::find(last, COMMA) < last.len() {
             return Line::Other;
         }
-        return point_line(crate::point::point_of(&s[..end], last), letter);
+        return match crate::point::point_of(&s[..end], last) {
+            Some(point) => point_line(point, letter),
+            None => Line::Other,
+        };
     }
     Line::Other
 }
 
 // The line of a letter and a point.
-fn point_line(pair: Pair, letter: u8) -> Line
-    ensures { (o : Option meant.Point) → pair ≡ coded_pair o → result ≡ coded (pointed letter o) }
+fn point_line(point: Point, letter: u8) -> Line
+    ensures { (t : meant.Point) → point ≡ coded_point t → result ≡ coded (pointed letter (some t)) }
 {
-    let Pair::Is(point) = pair else {
-        return Line::Other;
-    };
-    if letter == b'T' {
-        return Line::Table(point);
+    match letter {
+        b'T' => Line::Table(point),
+        b'L' => Line::Load(point),
+        b'A' => Line::Add(point),
+        _ => Line::Other,
     }
-    if letter == b'L' {
-        return Line::Load(point);
-    }
-    if letter == b'A' {
-        return Line::Add(point);
-    }
-    Line::Other
 }
 
 // Whether a D line comes first.
 fn is_double(s: &[u8]) -> bool
     ensures { result ≡ true → Doubles s.now }
 {
-    if s.len() < 2 {
-        return false;
-    }
-    if s[0] == b'D' {
-        return s[1] == LINE_FEED;
-    }
-    false
+    2 <= s.len() && s[0] == b'D' && s[1] == LINE_FEED
 }
 
 // The line that begins at a place of the sheet; past the end, no line that can stand there.
@@ -117,20 +105,16 @@ pub fn line_at(sheet: &[u8], at: usize) -> Taken
     if MOST_BYTES <= rest.len() {
         let short = crate::short::short_line(rest);
         if short.fits {
-            let point = short.point;
-            let line = point_line(Pair::Is(point), short.letter);
-            let next = at + short.end;
             return Taken {
-                line: line,
-                next: next,
+                line: point_line(short.point, short.letter),
+                next: at + short.end,
             };
         }
     }
     let end = sheet::fields::find(rest, LINE_FEED);
     if end < rest.len() {
-        let line = line_of(&rest[..end]);
         return Taken {
-            line: line,
+            line: line_of(&rest[..end]),
             next: at + end + 1,
         };
     }

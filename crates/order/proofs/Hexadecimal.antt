@@ -6,11 +6,11 @@ use Prim.Native.Nat.{ℕ, zero, suc, ◌+◌, ◌-◌, ◌*◌, ◌≤◌, ◌<�
 use native.Mathlib.Numerals.{add-one}
 use native.Mathlib.Omega.{arith}
 use lib.Dec.{ltb}
-use lib.ListN.{length, get_or, set, take, replicate, length-set, length-append, length-replicate, get_or-eq_default}
+use lib.ListN.{length, get_or, set, take, replicate, length-set, length-append, length-replicate}
 use lib.Seq.{take-suc, take-suc-set, take_all}
 use borrow.Author.Tests.{ltb-true}
 use Rattle.digits.specs.Scalar.Sized.{both}
-use Rattle.digits.specs.Scalar.{scalar, little}
+use Rattle.digits.specs.Scalar.{Bytes, scalar, little}
 use Rattle.sheet.specs.Numeral.{worth, figures, followed}
 
 followed_append : (base n : ℕ) (s t : List ℕ) → followed base n (s ++ t) ≡ followed base (followed base n s) t
@@ -38,20 +38,34 @@ scalar_more : (s : List ℕ) (b : ℕ) → scalar (s ++ (b ∷ [])) ≡ b + 256 
 unfolding scalar little
 scalar_more s b = ap little (reverse-append s (b ∷ []))
 
+bytes_set : (s : List ℕ) (i b : ℕ) → b < 256 → Bytes s → Bytes (set s i b)
+bytes_set [] i b h f j = f j
+bytes_set (x ∷ s) zero b h f zero = h
+bytes_set (x ∷ s) zero b h f (suc j) = f (suc j)
+bytes_set (x ∷ s) (suc i) b h f zero = f zero
+bytes_set (x ∷ s) (suc i) b h f (suc j) = bytes_set s i b h (λ k. f (suc k)) j
+
+pub zeros : (n : ℕ) → Bytes (replicate n 0)
+zeros zero j = omega arith
+zeros (suc n) zero = omega arith
+zeros (suc n) (suc j) = zeros n j
+
 -- what stands after i bytes
 pub record Made (s bytes : List ℕ) (i : ℕ) : Type 0 where
   pub long : length bytes ≡ 66
+  pub are_bytes : Bytes bytes
   pub number : scalar (take i bytes) ≡ followed 16 0 (take (2 * i) s)
 
-pub made_none : (s bytes : List ℕ) → length bytes ≡ 66 → Made s bytes 0
+pub made_none : (s bytes : List ℕ) → length bytes ≡ 66 → Bytes bytes → Made s bytes 0
 unfolding scalar little followed
-made_none s bytes h = record { long = h; number = refl }
+made_none s bytes h are = record { long = h; are_bytes = are; number = refl }
 
-pub made_more : (s bytes : List ℕ) (i a b : ℕ) → i < 66 → 2 * i + 1 < length s → a ≡ worth (get_or s (2 * i) 48) → b ≡ worth (get_or s (2 * i + 1) 48) → Made s bytes i
-    → Made s (set bytes i (16 * a + b)) (i + 1)
-made_more s bytes i a b h l e f m =
+pub made_more : (s bytes : List ℕ) (i a b : ℕ) → i < 66 → 2 * i + 1 < length s → a ≡ worth (get_or s (2 * i) 48) → b ≡ worth (get_or s (2 * i + 1) 48) → 16 * a + b < 256
+    → Made s bytes i → Made s (set bytes i (16 * a + b)) (i + 1)
+made_more s bytes i a b h l e f w m =
     record {
       long = length-set bytes i (16 * a + b) ∙ m.long;
+      are_bytes = bytes_set bytes i (16 * a + b) w m.are_bytes;
       number =
           ap (λ (n : ℕ). scalar (take n (set bytes i (16 * a + b)))) (add-one i)
           ∙ ap scalar (take-suc-set bytes i (16 * a + b) (omega (arith, m.long)))
@@ -74,11 +88,6 @@ made_all s bytes i h m = m.number ∙ ap (followed 16 0) (take_all (2 * i) s h)
 
 -- ── figures behind zeros ────────────────────────────────────────────────────────────────────
 
-pub zero_figure : (pad at : ℕ) (s : List ℕ) → at < pad → worth (get_or (replicate pad 48 ++ s) at 48) ≡ 0
-zero_figure zero at s h = absurd (omega arith)
-zero_figure (suc pad) zero s h = refl
-zero_figure (suc pad) (suc at) s h = zero_figure pad at s (omega arith)
-
 pub own_figure : (pad at : ℕ) (s : List ℕ) → pad ≤ at → get_or (replicate pad 48 ++ s) at 48 ≡ get_or s (at - pad) 48
 own_figure zero at s h = let e : at ≡ at - 0 = omega arith in ap (λ (i : ℕ). get_or s i 48) e
 own_figure (suc pad) zero s h = absurd (omega arith)
@@ -89,14 +98,6 @@ unfolding figures
 figure_below [] i e h = absurd (omega arith)
 figure_below (c ∷ s) zero e h = ltb-true (worth c) 16 (both (ltb (worth c) 16) (figures 16 s) e).0
 figure_below (c ∷ s) (suc i) e h = figure_below s i (both (ltb (worth c) 16) (figures 16 s) e).1 (omega arith)
-
-pub either_default : (s : List ℕ) (i : ℕ) → i < length s → get_or s i 0 ≡ get_or s i 48
-either_default [] i h = absurd (omega arith)
-either_default (c ∷ s) zero h = refl
-either_default (c ∷ s) (suc i) h = either_default s i (omega arith)
-
-pub past_figure : (pad at : ℕ) (s : List ℕ) → pad ≤ at → length s ≤ at - pad → worth (get_or (replicate pad 48 ++ s) at 48) ≡ 0
-past_figure pad at s h l = ap worth (own_figure pad at s h ∙ get_or-eq_default s 48 l)
 
 pub padded_length : (pad : ℕ) (s : List ℕ) → length (replicate pad 48 ++ s) ≡ pad + length s
 padded_length pad s = length-append (replicate pad 48) s ∙ ap (λ (n : ℕ). n + length s) (length-replicate pad 48)

@@ -14,7 +14,7 @@ use Rattle.digits.specs.Integer.{signed_by}
 use Rattle.digits.specs.declared.limits.Limits.{Limits}
 use Rattle.digits.specs.Limits.{card}
 use Rattle.digits.specs.Scalar.{scalar, signed_scalar}
-use Rattle.sheet.specs.declared.figures.Decimal.TheVariants.{Is, None}
+use Rattle.std.specs.declared.option.Option.TheVariants.{Some, None}
 use Rattle.sheet.specs.Spelling.Field.{sign_of, unsigned, is_whole, whole_of, decimal_of}
 use Rattle.sheet.specs.Numeral.{figures, followed}
 use Rattle.sheet.specs.Spelling.{read_scalar, read_decimal, ◌>>=◌}
@@ -80,7 +80,7 @@ pub record Ordered (fs : List (List ℕ)) (slots : ℕ) : Type 0 where
   pub second : spelled card fs 1 ≡ true
   pub read : read_fields card fs ≡ some (record { k = value fs 0; l = value fs 1; slots = slots })
 
-pub some_order : (fs : List (List ℕ)) (n : ℕ) → decimal_of (slots_of (read_fields card fs)) ≡ Is n → Ordered fs n
+pub some_order : (fs : List (List ℕ)) (n : ℕ) → decimal_of (slots_of (read_fields card fs)) ≡ Some n → Ordered fs n
 some_order fs n e = go (spelled card fs 0) (spelled card fs 1) (eqb (length fs) 3) (read_decimal (get_or fs 2 [])) refl refl (read_as card fs refl refl refl)
   where
     go : (a b three : Bool) (c : Option ℕ) → spelled card fs 0 ≡ a → spelled card fs 1 ≡ b

@@ -7,11 +7,9 @@ use Prim.Native.Nat.{ℕ, ◌+◌, ◌≤◌, ◌<◌}
 use native.Mathlib.Omega.{arith}
 use borrow.Author.Tests.{le-leb, lt-leb, lt-ltb}
 use lib.IntN.{ℤ}
-use lib.ListN.{length, get_or, set, take, length-set}
-use lib.Seq.{length-take-le}
-use Rattle.digits.specs.Scalar.Sized.{bytes_sized}
+use lib.ListN.{length, get_or, drop, set, length-set}
 use Rattle.digits.specs.Limits.{card}
-use Rattle.digits.specs.Scalar.{signed_scalar}
+use Rattle.digits.specs.Scalar.{signed_scalar, sized}
 use Rattle.sheet.specs.Numeral.{numeral}
 use Rattle.sheet.specs.Spelling.Field.{whole_of}
 use Rattle.sheet.specs.Plan.{is_limit}
@@ -20,7 +18,9 @@ use Rattle.written.specs.Written.{written}
 use Rattle.writer.specs.Call as Call
 use Rattle.writer.specs.Call.{wrote, left, number}
 use Rattle.writer.specs.declared.answer.Sheet.{Sheet}
-use Rattle.writer.specs.declared.answer.Sheet.TheVariants.{BadLimit, Written}
+use Rattle.std.specs.Prelude.{Result, Ok, Err}
+use Rattle.digits.specs.declared.missed.Missed.{Missed}
+use Rattle.digits.specs.declared.missed.Missed.TheVariants.{BadLimit}
 use Rattle.sheet.specs.Numeral.Figures.{numeral_low}
 use Rattle.chooser.specs.Call.{cheapest_answer, cheapest_buffer}
 use Rattle.chooser.specs.Cheapest.{cheapest_plan, cheapest}
@@ -34,52 +34,44 @@ numeral_one n h = numeral_low 10 (omega arith) n h ∙ rw (lt-ltb n 10 h)
 pub below_sets : (s : List ℕ) (i j x y n : ℕ) → n < length s → n < length (set (set s i x) j y)
 below_sets s i j x y n h = rw length-set (rw length-set h)
 
--- four bytes set are the line of a refusal
-pub refused : (n : ℕ) (buffer : List ℕ) → n < 10 → 4 ≤ length buffer
-    → Prints (refusal n) buffer 4 (set (set (set (set buffer 0 78) 1 44) 2 (48 + n)) 3 10)
-refused n [] h r = absurd (omega arith)
-refused n (a ∷ []) h r = absurd (omega arith)
-refused n (a ∷ b ∷ []) h r = absurd (omega arith)
-refused n (a ∷ b ∷ c ∷ []) h r = absurd (omega arith)
-refused n (a ∷ b ∷ c ∷ d ∷ s) h r =
-    subst (λ (t : List ℕ). Prints (78 ∷ 44 ∷ t ++ line_feed ∷ []) (a ∷ b ∷ c ∷ d ∷ s) 4 (78 ∷ 44 ∷ (48 + n) ∷ 10 ∷ s)) (sym (numeral_one n h)) (record { long = refl; out_is = refl })
+-- the four bytes of a refusal's line, in front of what was there
+pub refused : (n : ℕ) (buffer : List ℕ) → n < 10 → Prints (refusal n) buffer 4 ((78 ∷ 44 ∷ (48 + n) ∷ 10 ∷ []) ++ drop 4 buffer)
+refused n buffer h =
+    subst (λ (t : List ℕ). Prints (78 ∷ 44 ∷ t ++ line_feed ∷ []) buffer 4 ((78 ∷ 44 ∷ (48 + n) ∷ 10 ∷ []) ++ drop 4 buffer)) (sym (numeral_one n h))
+    (record { long = refl; out_is = refl })
 
--- the cheapest call, asked for scalars x and y of 1 to 66 bytes with a whole buffer, answers a and leaves out
-pub record Answers (k : List ℕ) (k_sign : ℕ) (l : List ℕ) (l_sign : ℕ) (buffer : List ℕ) (slots : ℕ) (x y : ℤ) (a : Sheet) (out : List ℕ) : Type 0 where
-  pub k_size : (1 ≤ length k) × (length k ≤ 66)
-  pub l_size : (1 ≤ length l) × (length l ≤ 66)
+-- the cheapest call, asked for scalars x and y with a whole buffer, answers a and leaves out
+pub record Answers (k : List ℕ) (k_sign : ℕ) (l : List ℕ) (l_sign : ℕ) (buffer : List ℕ) (slots : ℕ) (x y : ℤ) (a : Result Sheet Missed) (out : List ℕ) : Type 0 where
+  pub k_size : sized card k ≡ true
+  pub l_size : sized card l ≡ true
   pub room : 16384 ≤ length buffer
   pub k_is : signed_scalar k k_sign ≡ x
   pub l_is : signed_scalar l l_sign ≡ y
   pub answer : a ≡ cheapest_answer card k k_sign l l_sign slots (length buffer)
   pub leaves : out ≡ cheapest_buffer card k k_sign l l_sign slots buffer
 
--- the first n of 66 bytes
-pub taken : (n : ℕ) (s : List ℕ) → (1 ≤ n) × (n ≤ 66) → length s ≡ 66 → (1 ≤ length (take n s)) × (length (take n s) ≤ 66)
-taken n s h e = rw (length-take-le n s (omega (arith, h.1))) h
-
-module _ {k l buffer out : List ℕ} {k_sign l_sign slots : ℕ} {x y : ℤ} {a : Sheet} (c : Answers k k_sign l l_sign buffer slots x y a out) where
-  asked : (b : Bool) → is_limit slots ≡ b → a ≡ cond b (wrote (cheapest_plan (signed_scalar k k_sign) (signed_scalar l l_sign) slots) (signed_scalar k k_sign) (signed_scalar l l_sign)) BadLimit
+module _ {k l buffer out : List ℕ} {k_sign l_sign slots : ℕ} {x y : ℤ} {a : Result Sheet Missed} (c : Answers k k_sign l l_sign buffer slots x y a out) where
+  asked : (b : Bool) → is_limit slots ≡ b → a ≡ cond b (wrote (cheapest_plan (signed_scalar k k_sign) (signed_scalar l l_sign) slots) (signed_scalar k k_sign) (signed_scalar l l_sign)) (Err BadLimit)
   unfolding cheapest_answer
-  asked b d = c.answer ∙ rw (bytes_sized card k c.k_size, bytes_sized card l c.l_size, le-leb 16384 (length buffer) c.room, d)
+  asked b d = c.answer ∙ rw (c.k_size, c.l_size, le-leb 16384 (length buffer) c.room, d)
 
-  left_as : {b : Sheet} → a ≡ b → out ≡ left b (cheapest (signed_scalar k k_sign) (signed_scalar l l_sign) slots) buffer
+  left_as : {b : Result Sheet Missed} → a ≡ b → out ≡ left b (cheapest (signed_scalar k k_sign) (signed_scalar l l_sign) slots) buffer
   unfolding cheapest_buffer
-  left_as h = c.leaves ∙ ap (λ (b : Sheet). left b (cheapest (signed_scalar k k_sign) (signed_scalar l l_sign) slots) buffer) (sym c.answer ∙ h)
+  left_as h = c.leaves ∙ ap (λ (b : Result Sheet Missed). left b (cheapest (signed_scalar k k_sign) (signed_scalar l l_sign) slots) buffer) (sym c.answer ∙ h)
 
   named : {r : ℕ} {t : List ℕ} → Prints (served (signed_scalar k k_sign) (signed_scalar l l_sign) slots) buffer r t → Prints (served x y slots) buffer r t
   named {r} {t} p =
       subst (λ (i : ℤ). Prints (served i y slots) buffer r t) c.k_is (subst (λ (j : ℤ). Prints (served (signed_scalar k k_sign) j slots) buffer r t) c.l_is p)
 
-  pub sheet_printed : {n m : ℕ} → a ≡ Written n m → Prints (served x y slots) buffer n out
+  pub sheet_printed : {s : Sheet} → a ≡ Ok s → Prints (served x y slots) buffer s.length out
   unfolding cheapest
-  sheet_printed {n} {m} h = named (go (is_limit slots) refl)
+  sheet_printed {s} h = named (go (is_limit slots) refl)
     where
-      go : (b : Bool) → is_limit slots ≡ b → Prints (cond b (written (cheapest_plan (signed_scalar k k_sign) (signed_scalar l l_sign) slots) (signed_scalar k k_sign) (signed_scalar l l_sign)) (refusal 4)) buffer n out
+      go : (b : Bool) → is_limit slots ≡ b → Prints (cond b (written (cheapest_plan (signed_scalar k k_sign) (signed_scalar l l_sign) slots) (signed_scalar k k_sign) (signed_scalar l l_sign)) (refusal 4)) buffer s.length out
       go true d = record { long = ap Call.bytes_written (sym h ∙ asked true d); out_is = left_as h }
       go false d = absurd (omega (arith, ap number (sym h ∙ asked false d)))
 
-  pub limit_printed : {r : ℕ} {t : List ℕ} → a ≡ BadLimit → Prints (refusal 4) out r t → Prints (served x y slots) buffer r t
+  pub limit_printed : {r : ℕ} {t : List ℕ} → a ≡ Err BadLimit → Prints (refusal 4) out r t → Prints (served x y slots) buffer r t
   limit_printed {r} {t} h p = named (go (is_limit slots) refl)
     where
       go : (b : Bool) → is_limit slots ≡ b → Prints (cond b (cheapest (signed_scalar k k_sign) (signed_scalar l l_sign) slots) (refusal 4)) buffer r t

@@ -4,7 +4,6 @@ ghost use Rattle.sheet.specs.Spelling.{comma, cut};
 ghost use Rattle.order.specs.Order.{line_of, read_fields, slots_of};
 
 use digits::Limits;
-use sheet::figures::Decimal;
 
 const LINE_FEED: u8 = b'\n';
 
@@ -20,15 +19,14 @@ pub fn line_of(order: &[u8]) -> &[u8]
 }
 
 // The slots of a line that is spelled k,l,slots, with scalars of no more figures than the limits allow.
-pub fn slots_of(limits: Limits, line: &[u8]) -> Decimal
+pub fn slots_of(limits: Limits, line: &[u8]) -> Option<u32>
     ensures { result ≡ decimal_of (slots_of (read_fields limits (cut comma line.now))) }
 {
-    if sheet::fields::is_scalar_at(limits, line, 0) {
-        if sheet::fields::is_scalar_at(limits, line, 1) {
-            if sheet::fields::count(line) == 3 {
-                return sheet::fields::decimal_at(line, 2);
-            }
-        }
+    if sheet::fields::is_scalar_at(limits, line, 0)
+        && sheet::fields::is_scalar_at(limits, line, 1)
+        && sheet::fields::count(line) == 3
+    {
+        return sheet::fields::decimal_at(line, 2);
     }
-    Decimal::None
+    None
 }

@@ -1,3 +1,1 @@
-pub mod ColumnBytes
-pub mod Laid
 pub mod Laws

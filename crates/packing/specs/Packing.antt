@@ -1,14 +1,11 @@
 -- A column of two digits −1, 0, 1 as one byte, and the column of a byte; and which bytes store such digits, and which such columns.
-pub mod All
 pub mod Places
-use Rattle.std.specs.Prelude.{Bool, true, ◌&&◌, List, [], ◌∷◌, map, ℕ, ◌+◌, ◌*◌, ◌/◌, ◌%◌, leb, pos, ◌+ℤ◌, ◌-ℤ◌, nat_abs, take}
+use Rattle.std.specs.Prelude.{Bool, List, map, ℕ, ◌+◌, ◌*◌, ◌/◌, ◌%◌, leb, pos, ◌+ℤ◌, ◌-ℤ◌, nat_abs, take}
 use Rattle.digits.specs.Buffer.{columns_below}
 use Rattle.digits.specs.Byte.{byte_of, signed}
 use Rattle.digits.specs.Column.{row}
 use Rattle.digits.specs.Integer.{up}
 use Rattle.digits.specs.Two.{Column, Two, two}
-use Rattle.packing.specs.declared.stored.Stored.{Stored}
-use Rattle.packing.specs.declared.stored.Stored.TheVariants.{OneDigit, TwoDigits}
 
 -- the byte of a column (a, b): 3 × (a + 1) + (b + 1)
 unfoldable pub byte_of_column : Column → ℕ
@@ -18,15 +15,13 @@ byte_of_column c = 3 * up (c.p +ℤ pos 1) + up (c.q +ℤ pos 1)
 unfoldable pub column_of_byte : ℕ → Column
 column_of_byte b = record { p = pos (b / 3) -ℤ pos 1; q = pos (b % 3) -ℤ pos 1 }
 
--- the byte stores a digit −1, 0 or 1, in two's complement; or a column: it is not above 8
-abbrev pub stores : Stored → ℕ → Bool
-stores OneDigit b = leb (nat_abs (signed b)) 1
-stores TwoDigits b = leb b 8
+-- the byte stores a digit −1, 0 or 1, in two's complement
+abbrev pub stores_digit : ℕ → Bool
+stores_digit b = leb (nat_abs (signed b)) 1
 
--- every byte does
-unfoldable pub all_store : Stored → List ℕ → Bool
-all_store what [] = true
-all_store what (b ∷ bs) = stores what b && all_store what bs
+-- the byte stores a column: it is not above 8
+abbrev pub stores_column : ℕ → Bool
+stores_column b = leb b 8
 
 -- the bytes of the n columns of two rows
 abbrev pub packed_columns : ℕ → List ℕ → List ℕ → List ℕ

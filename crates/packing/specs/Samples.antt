@@ -1,7 +1,7 @@
 -- All nine columns with their bytes, and what the calls answer where two of their questions are missed at once, by computation.
 use Rattle.std.specs.Prelude.{◌≡◌, refl, List, [], ◌∷◌, map, ℕ, ℤ, pos, negsuc}
 use Rattle.digits.specs.Two.{Column}
-use Rattle.packing.specs.Packing.{byte_of_column, column_of_byte, all_store}
+use Rattle.packing.specs.Packing.{byte_of_column, column_of_byte}
 use Rattle.packing.specs.Call.{pack_question, unpack_question}
 
 -- a column (a, b)
@@ -52,7 +52,6 @@ packed =
     ∷ []
 
 pub packed_numbers : packed ≡ (3 ∷ 3 ∷ 3 ∷ 12 ∷ 12 ∷ 0 ∷ 0 ∷ 0 ∷ [])
-unfolding all_store
 packed_numbers = refl
 
 -- unpacking: the columns, the buffer, and the places of both rows
@@ -70,5 +69,4 @@ unpacked =
     ∷ []
 
 pub unpacked_numbers : unpacked ≡ (3 ∷ 3 ∷ 3 ∷ 12 ∷ 0 ∷ 0 ∷ 0 ∷ [])
-unfolding all_store
 unpacked_numbers = refl

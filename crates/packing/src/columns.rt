@@ -1,32 +1,29 @@
-ghost use Rattle.std.specs.Prelude.{◌≡◌, true, ◌++◌, ◌≤◌, length, drop};
+ghost use Rattle.std.specs.Prelude.{◌≡◌, true, ◌≤◌, length};
 ghost use Rattle.digits.specs.Two.{P, Q};
 ghost use Rattle.packing.specs.Packing.{packed_columns, unpacked_row};
 ghost use Rattle.packing.specs.Call.{packable};
 
-// Packs the first n columns of two rows. Each of their digits is -1, 0 or 1.
-pub fn pack_all(n: usize, k_digits: &[u8], l_digits: &[u8], packed: &mut [u8])
-    requires room { (n ≤ length k_digits.now) × ((n ≤ length l_digits.now) × (n ≤ length packed.old)) }
-    requires packable { packable n k_digits.now l_digits.now ≡ true }
-    ensures { packed.new ≡ packed_columns n k_digits.now l_digits.now ++ drop n packed.old }
+// Fills the buffer with the bytes of the first columns of two rows. Each of their digits is -1, 0 or 1.
+pub fn pack_all(k_digits: &[u8], l_digits: &[u8], packed: &mut [u8])
+    requires room { (length packed.old ≤ length k_digits.now) × (length packed.old ≤ length l_digits.now) }
+    requires packable { packable (length packed.old) k_digits.now l_digits.now ≡ true }
+    ensures { packed.new ≡ packed_columns (length packed.old) k_digits.now l_digits.now }
 {
-    let mut i = 0;
-    while i < n {
-        packed[i] = crate::column::byte_of(k_digits[i], l_digits[i]);
-        i += 1;
+    // By the index, and not by `zip`: after an adapter of `iter_mut` a proof knows nothing of what was written.
+    for (i, byte) in packed.iter_mut().enumerate() {
+        *byte = crate::column::byte_of(k_digits[i], l_digits[i]);
     }
 }
 
-// Unpacks the first n bytes, the digits of each column into two rows.
-pub fn unpack_all(n: usize, packed: &[u8], k_digits: &mut [u8], l_digits: &mut [u8])
-    requires { (n ≤ length packed.now) × ((n ≤ length k_digits.old) × (n ≤ length l_digits.old)) }
-    ensures first { k_digits.new ≡ unpacked_row P n packed.now ++ drop n k_digits.old }
-    ensures second { l_digits.new ≡ unpacked_row Q n packed.now ++ drop n l_digits.old }
+// Fills two rows with the digits of so many bytes' columns.
+pub fn unpack_all(packed: &[u8], k_digits: &mut [u8], l_digits: &mut [u8])
+    requires { (length k_digits.old ≡ length packed.now) × (length l_digits.old ≡ length packed.now) }
+    ensures first { k_digits.new ≡ unpacked_row P (length packed.now) packed.now }
+    ensures second { l_digits.new ≡ unpacked_row Q (length packed.now) packed.now }
 {
-    let mut i = 0;
-    while i < n {
-        let byte = packed[i];
+    // By the index, as above.
+    for (i, &byte) in packed.iter().enumerate() {
         k_digits[i] = crate::column::first_of(byte);
         l_digits[i] = crate::column::second_of(byte);
-        i += 1;
     }
 }

@@ -1,11 +1,9 @@
 // One byte for a joint column: the columns of two rows packed into a buffer, and unpacked into two rows.
 #![tactic(auto)]
 
-mod answer;
 mod call;
 mod column;
 mod columns;
 mod stored;
 
-pub use answer::Packing;
 pub use call::{pack, unpack};

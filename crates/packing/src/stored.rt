@@ -1,35 +1,44 @@
-ghost use Rattle.std.specs.Prelude.{◌≡◌, ◌≤◌, length, take};
-ghost use Rattle.packing.specs.Packing.{stores, all_store};
+ghost use Rattle.std.specs.Prelude.{◌≡◌, ℕ, ◌<◌, Bool};
+ghost use Rattle.std.specs.List.{list_all};
+ghost use Rattle.packing.specs.Packing.{stores_digit, stores_column};
 
-// What a byte stores.
-#[derive(Clone, Copy)]
-pub enum Stored {
-    // A digit -1, 0 or 1, in two's complement.
-    OneDigit,
-    // A column of two such digits.
-    TwoDigits,
+// Whether a byte stores a digit -1, 0 or 1, in two's complement.
+fn stores_digit(byte: u8) -> bool
+    ensures { result ≡ stores_digit byte }
+{
+    byte < 2 || byte > 254
 }
 
-// Whether a byte stores that.
-fn stores(what: Stored, byte: u8) -> bool
-    ensures { result ≡ stores what byte }
+// Whether a byte stores a column of two such digits.
+fn stores_column(byte: u8) -> bool
+    ensures { result ≡ stores_column byte }
 {
-    match what {
-        Stored::OneDigit => (byte < 2) | (byte > 254),
-        Stored::TwoDigits => byte <= 8,
-    }
+    byte <= 8
 }
 
-// Whether each of the first n bytes does.
-pub fn all_store(what: Stored, n: usize, bytes: &[u8]) -> bool
-    requires { n ≤ length bytes.now }
-    ensures { result ≡ all_store what (take n bytes.now) }
+// Whether each byte stores what is asked for.
+fn all_store<F: Fn(u8) -> bool>(bytes: &[u8], stores: F) -> bool
+    requires { F.IsAlwaysCallable stores }
+    ensures { (p : ℕ → Bool) → ((b : ℕ) (r : Bool) → b < 256 → F.post stores b r → r ≡ p b) → result ≡ list_all p bytes.now }
 {
+    // Not `all`, which stops at the first other byte: without that branch the compiler asks 32 bytes at a time.
     let mut good = true;
-    let mut i = 0;
-    while i < n {
-        good = good & stores(what, bytes[i]);
-        i += 1;
+    for &byte in bytes {
+        good &= stores(byte);
     }
     good
+}
+
+// Whether each byte stores a digit.
+pub fn all_store_digits(bytes: &[u8]) -> bool
+    ensures { result ≡ list_all stores_digit bytes.now }
+{
+    all_store(bytes, stores_digit)
+}
+
+// Whether each byte stores a column.
+pub fn all_store_columns(bytes: &[u8]) -> bool
+    ensures { result ≡ list_all stores_column bytes.now }
+{
+    all_store(bytes, stores_column)
 }

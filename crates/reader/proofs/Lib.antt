@@ -1,3 +1,4 @@
 -- Laws that the functions' proofs cite.
 pub mod LimbTurns
 pub mod TextTurns
+pub mod Laws

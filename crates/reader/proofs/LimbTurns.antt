@@ -51,23 +51,23 @@ same_test a b c d f g = go (eqb c d) refl
     go true e = eq-eqb a b (g (eqb-true c d e))
     go false e = ne_eqb a b (λ h. eqb-false c d e (f h))
 
--- the figures from here on count x, which is limb * rest + l; the sums go on with xs and ys
-module _ (x rest l : ℕ) (e : x ≡ limb * rest + l) (xs ys : List ℕ) (i left right : ℕ) (h : i < length xs) (k : i < length ys) where
-  pub sum_turn : (l + get_or xs i 0 + left) % limb ≡ (get_or ys i 0 + right) % limb
-      → eqb (rest + value (drop (i + 1) xs) + (l + get_or xs i 0 + left) / limb) (value (drop (i + 1) ys) + (get_or ys i 0 + right) / limb)
+-- the figures from here on count x, which is limb * rest + l; the sums go on with a and b, and behind them with xs and ys
+module _ (x rest l : ℕ) (e : x ≡ limb * rest + l) (xs ys : List ℕ) (i left right a b : ℕ) (h : i < length xs) (k : i < length ys) (p : a ≡ get_or xs i 0) (q : b ≡ get_or ys i 0) where
+  pub sum_turn : (j : ℕ) → j ≡ i + 1 → (l + a + left) % limb ≡ (b + right) % limb
+      → eqb (rest + value (drop j xs) + (l + a + left) / limb) (value (drop j ys) + (b + right) / limb)
       ≡ eqb (x + value (drop i xs) + left) (value (drop i ys) + right)
   unfolding value
-  sum_turn s =
-      rw (native.Mathlib.Numerals.add-one, drop-cons xs i 0 h, drop-cons ys i 0 k)
-      (same_test (rest + value (drop (suc i) xs) + (l + get_or xs i 0 + left) / limb) (value (drop (suc i) ys) + (get_or ys i 0 + right) / limb)
-      (x + (get_or xs i 0 + limb * value (drop (suc i) xs)) + left) (get_or ys i 0 + limb * value (drop (suc i) ys) + right)
-      (λ q. omega arith) (λ q. omega arith))
+  sum_turn j n s =
+      rw (n, native.Mathlib.Numerals.add-one, drop-cons xs i 0 h, drop-cons ys i 0 k, ← p, ← q)
+      (same_test (rest + value (drop (suc i) xs) + (l + a + left) / limb) (value (drop (suc i) ys) + (b + right) / limb)
+      (x + (a + limb * value (drop (suc i) xs)) + left) (b + limb * value (drop (suc i) ys) + right)
+      (λ t. omega arith) (λ t. omega arith))
 
-  pub sum_stop : (l + get_or xs i 0 + left) % limb ≢ (get_or ys i 0 + right) % limb → false ≡ eqb (x + value (drop i xs) + left) (value (drop i ys) + right)
+  pub sum_stop : (l + a + left) % limb ≢ (b + right) % limb → false ≡ eqb (x + value (drop i xs) + left) (value (drop i ys) + right)
   unfolding value
   sum_stop s =
-      rw (drop-cons xs i 0 h, drop-cons ys i 0 k)
-      (sym (ne_eqb (x + (get_or xs i 0 + limb * value (drop (suc i) xs)) + left) (get_or ys i 0 + limb * value (drop (suc i) ys) + right) (λ q. s (omega arith))))
+      rw (drop-cons xs i 0 h, drop-cons ys i 0 k, ← p, ← q)
+      (sym (ne_eqb (x + (a + limb * value (drop (suc i) xs)) + left) (b + limb * value (drop (suc i) ys) + right) (λ t. s (omega arith))))
 
 pub sum_end : (x : ℕ) (xs ys : List ℕ) (i left right : ℕ) → x ≡ 0 → length xs ≤ i → length ys ≤ i
     → eqb left right ≡ eqb (x + value (drop i xs) + left) (value (drop i ys) + right)

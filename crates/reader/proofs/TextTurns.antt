@@ -32,14 +32,13 @@ byte_before bytes at b h =
     ∙ drop_at (take at bytes) (b ∷ drop (suc at) bytes) at (length-take-le at bytes (omega arith))
     ∙ ap (λ (n : ℕ). b ∷ drop n bytes) (sym (native.Mathlib.Numerals.add-one at))
 
-pub before_self : (t : Text) → length t.bytes ≡ 64 → Before t [] t
-before_self t h = record { long = h; at = omega arith; is = refl; front = refl }
+pub before_self : (t : Text) → Before t [] t
+before_self t = record { at = omega arith; is = refl; front = refl }
 
 pub before_more : {t u r : Text} {s : List ℕ} {b : ℕ} → Before t s u → Before u (b ∷ []) r → Before t (b ∷ s) r
 before_more {t} {u} {r} {b = b} p q =
     let low : r.at ≤ u.at = omega (arith, q.at) in
     record {
-      long = q.long;
       at = omega (arith, p.at, q.at);
       is = q.is ∙ ap (λ (l : List ℕ). b ∷ l) p.is;
       front =
@@ -59,9 +58,9 @@ pub record Turn (n : ℕ) (t text : Text) (rest : ℕ) : Type 0 where
   pub some : 1 ≤ left
   pub small : rest < 10 ^ left
 
-pub turn_start : (n : ℕ) (t : Text) → length t.bytes ≡ 64 → n < 18446744073709551616 → Turn n t t n
-turn_start n t h l =
-    record { done = []; before = before_self t h; all = append-nil (numeral 10 n); left = 20; few = omega arith; some = omega arith; small = omega arith }
+pub turn_start : (n : ℕ) (t : Text) → n < 18446744073709551616 → Turn n t t n
+turn_start n t l =
+    record { done = []; before = before_self t; all = append-nil (numeral 10 n); left = 20; few = omega arith; some = omega arith; small = omega arith }
 
 module _ {n : ℕ} {t text : Text} {rest : ℕ} (c : Turn n t text rest) where
   two_left : (k : ℕ) → 10 ≤ rest → rest < 10 ^ k → (j : ℕ) × (k ≡ suc (suc j))

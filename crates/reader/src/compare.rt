@@ -18,7 +18,8 @@ pub struct Figures {
     pub start: usize,
 }
 
-// The figure before a place; 0 where there is none.
+// The figure before a place; 0 where there is none. That all bytes are figures is passed on by the two functions below: a type for it would
+// serve these three alone.
 fn figure_before(figures: &[u8], end: usize) -> Figures
     requires { (end ≤ length figures.now) × Figured figures.now }
     ensures { Below 16 1 figures.now end result }
@@ -27,14 +28,13 @@ fn figure_before(figures: &[u8], end: usize) -> Figures
         return Figures { value: 0, start: 0 };
     }
     let start = end - 1;
-    let figure = sheet::figures::worth_of(figures[start]);
     Figures {
-        value: figure as u64,
-        start: start,
+        value: sheet::figures::worth_of(figures[start]) as u64,
+        start,
     }
 }
 
-// The four figures before a place.
+// The four figures before a place. Four calls and no loop: the wrong version three_figures changes the weight of one of them.
 fn limb_before(figures: &[u8], end: usize) -> Figures
     requires { (end ≤ length figures.now) × Figured figures.now }
     ensures { Below limb 4 figures.now end result }
@@ -58,31 +58,30 @@ fn reaches(from: &[u64], to: &[u64], figures: &[u8]) -> bool
     let mut end = figures.len();
     let mut left = 0;
     let mut right = 0;
-    let mut i = 0;
-    while i < from.len() {
+    for (x, y) in from.iter().zip(to) {
         let low = limb_before(figures, end);
-        let a = low.value + from[i] + left;
-        let b = to[i] + right;
+        let a = low.value + *x + left;
+        let b = *y + right;
         if a % LIMB != b % LIMB {
             return false;
         }
         end = low.start;
         left = a / LIMB;
         right = b / LIMB;
-        i += 1;
     }
     left == right
 }
 
 // Whether the sum is the scalar of a field: a minus exchanges the sum and the empty one.
-pub fn is(limits: Limits, limbs: &[u64], empty: &[u64], field: &[u8]) -> bool
+pub fn is_scalar_of(limits: Limits, limbs: &[u64], empty: &[u64], field: &[u8]) -> bool
     requires held { Held limits × (Near (limbs_of limits) most limbs.now × Holds (limbs_of limits) 0 empty.now (pos 0)) }
     requires whole { is_whole 16 limits.figures field.now ≡ true }
     ensures { (z : ℤ) → Holds (limbs_of limits) most limbs.now z → result ≡ same_number z (whole_of 16 field.now) }
 {
     let figures = sheet::fields::unsigned(field);
     if sheet::fields::sign_of(field) == 0 {
-        return reaches(empty, limbs, figures);
+        reaches(empty, limbs, figures)
+    } else {
+        reaches(limbs, empty, figures)
     }
-    reaches(limbs, empty, figures)
 }

@@ -1,9 +1,11 @@
 // The reader: judges any sequence of bytes as a sheet.
 #![tactic(auto)]
 
+mod answer;
 mod compare;
 mod judge;
 mod text;
 
-pub use judge::{Judgement, gateway_read, read};
-pub use text::{Text, verdict};
+pub use answer::verdict;
+pub use judge::read;
+pub use text::Text;

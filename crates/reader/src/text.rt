@@ -1,73 +1,53 @@
-ghost use Rattle.std.specs.Prelude.{◌≡◌, [], ◌∷◌, ◌+◌, ◌≤◌, length};
-ghost use Rattle.digits.specs.Limits.{card};
-ghost use Rattle.sheet.specs.Numeral.{numeral};
-ghost use Rattle.sheet.specs.Answer.{answer};
-ghost use Rattle.reader.specs.Text.{Room, Before, Holds, judgement_line, answer_line};
+ghost use Rattle.std.specs.Prelude.{◌≡◌, ◌≤◌, length};
+ghost use Rattle.reader.specs.declared.text.TheConstants.{ROOM};
 
-use crate::judge::Judgement;
+// The bytes of a text, and of what stands before it.
+const ROOM: usize = 64;
 
 // A text at the end of an array: its bytes from `at` on.
 #[derive(Clone, Copy)]
 pub struct Text {
-    pub bytes: [u8; 64],
+    pub bytes: [u8; ROOM],
     pub at: usize,
+    ghost within: { at ≤ ROOM },
 }
 
 impl Text {
+    ghost use Rattle.std.specs.Prelude.{[], ◌∷◌};
+    ghost use Rattle.sheet.specs.Numeral.{numeral};
+    ghost use Rattle.reader.specs.Text.{Before, Holds};
+
     // No bytes.
-    fn empty() -> Text
-        ensures { (length result.bytes ≡ 64) × ((result.at ≡ 64) × Holds result []) }
+    pub(crate) fn empty() -> Text
+        ensures { (result.at ≡ ROOM) × Holds result [] }
     {
         Text {
-            bytes: [0u8; 64],
-            at: 64,
+            bytes: [0u8; ROOM],
+            at: ROOM,
         }
     }
 
     // A byte in front.
-    fn with(self, byte: u8) -> Text
-        requires { Room self 1 }
+    pub(crate) fn with(mut self, byte: u8) -> Text
+        requires { 1 ≤ self.at }
         ensures { Before self (byte ∷ []) result }
     {
-        let mut next = self;
-        let at = self.at - 1;
-        next.bytes[at] = byte;
-        next.at = at;
-        next
+        self.at -= 1;
+        self.bytes[self.at] = byte;
+        self
     }
 
     // A decimal in front.
-    fn with_decimal(self, n: u64) -> Text
-        requires { Room self 20 }
+    pub(crate) fn with_decimal(mut self, n: u64) -> Text
+        requires { 20 ≤ self.at }
         ensures { Before self (numeral 10 n) result × (length (numeral 10 n) ≤ 20) }
     {
-        let mut text = self;
         let mut rest = n;
+        // No `for`: how many figures there are is known at the last one.
         while 10 <= rest {
-            let next = text.with(b'0' + (rest % 10) as u8);
-            text = next;
-            rest = rest / 10;
+            self = self.with(b'0' + (rest % 10) as u8);
+            rest /= 10;
         }
-        text.with(b'0' + rest as u8)
-    }
-}
-
-// The line of a refusal.
-fn refusal(number: u32, line: usize) -> Text
-    ensures { Holds result (judgement_line (Judgement.Refused number line)) }
-{
-    let end = Text::empty().with(b'\n');
-    let place = end.with_decimal(line as u64).with(b',');
-    place.with_decimal(number as u64).with(b',').with(b'N')
-}
-
-// The line that answers a sheet: `Y`, or `N,number,line`, each with its line feed.
-pub fn verdict(sheet: &[u8]) -> Text
-    ensures { Holds result (answer_line (answer card sheet.now)) }
-{
-    let judgement = crate::judge::read(sheet);
-    match judgement {
-        Judgement::Accepted => Text::empty().with(b'\n').with(b'Y'),
-        Judgement::Refused(number, line) => refusal(number, line),
+        self.with(b'0' + rest as u8)
     }
 }

@@ -2,8 +2,7 @@
 // to tell that a sheet is too long.
 #![tactic(auto)]
 
-ghost use Rattle.std.specs.Prelude.{◌≡◌, OnOk, IfOk, IfSome, length, take};
-ghost use Rattle.std.specs.Io.{ReadsAtMost};
+ghost use Rattle.std.specs.Prelude.{OnOk, IfSome};
 ghost use Rattle.std.specs.Io.KnownBytes.{Appends};
 ghost use Rattle.digits.specs.Limits.{card};
 ghost use Rattle.sheet.specs.Answer.{answer};
@@ -21,25 +20,9 @@ fn print_verdict<R: Read, W: Write>(input: &mut R, output: &mut W) -> io::Result
     ensures { OnOk result (IfSome (R.remaining input.old) (λ sheet. Appends (W.contents output.old) (W.contents output.new) (answer_line (answer card sheet)))) }
 {
     let mut buffer = [0u8; 16385];
-    let n = read_full(input, &mut buffer)?;
+    let n = streams::read_full(input, &mut buffer)?;
     let text = reader::verdict(&buffer[..n]);
     let at = text.at;
     let bytes = text.bytes;
     output.write_all(&bytes[at..])
-}
-
-// Reads until the buffer is full or the input ends, and returns how many bytes were read.
-fn read_full<R: Read>(input: &mut R, buffer: &mut [u8]) -> io::Result<usize>
-    ensures within { ReadsAtMost result buffer.new }
-    ensures front { IfOk result (λ n. IfSome (R.remaining input.old) (λ bytes. take n buffer.new ≡ take (length buffer.old) bytes)) }
-{
-    let mut count = 0;
-    while count < buffer.len() {
-        let more = input.read(&mut buffer[count..])?;
-        if more == 0 {
-            break;
-        }
-        count += more;
-    }
-    Ok(count)
 }

@@ -16,9 +16,8 @@ use Rattle.digits.specs.Two.{Two, P, Q, of, two}
 use Rattle.forms.specs.Joint.{joint, digit, rest}
 use Rattle.forms.proofs.Laws.Joint.Digit.{digit_mod, digit_fits, joint_rest_pos}
 use Rattle.recode.specs.declared.low.Low.{Low}
-use Rattle.recode.specs.declared.answer.Recoded.TheVariants.{Written}
-use Rattle.recode.specs.Call.{wrote_columns, filled}
-use Rattle.recode.specs.Body.Remainder.{remaining, Held}
+use Rattle.recode.specs.Call.{of_size, columns_size, filled}
+use Rattle.recode.specs.Body.Remainder.{remaining}
 use Rattle.recode.proofs.LowRemainder.{Used, Without, remaining_new, remaining_shifted, still, remaining_zero, remaining_some, remaining_less, low_bits}
 use Rattle.recode.proofs.JointTurns.{Turn, relaid, light, start, skip, store, stop, room}
 
@@ -70,8 +69,6 @@ pub going_on : {s t s' t' : Low} {z : ℕ} (k_used l_used : ℕ) → Without s s
 going_on k_used l_used v w = ⊎_map (still v k_used) (still w l_used)
 
 pub record State (k l k_out₀ k_out l_out : List ℕ) (s t : Low) (place weight : ℕ) : Type 0 where
-  pub k_held : Held s
-  pub l_held : Held t
   -- both hold as many bits
   pub level : s.bits ≡ t.bits
   pub k_long : length k_out ≡ length k_out₀
@@ -86,8 +83,6 @@ module _ {k l k_out₀ l_out₀ : List ℕ} (g : Given k l k_out₀ l_out₀) wh
   pub begin : (s t : Low) → (s.at ≡ 0) × ((s.bits ≡ 0) × (s.low ≡ 0)) → (t.at ≡ 0) × ((t.bits ≡ 0) × (t.low ≡ 0)) → State k l k_out₀ k_out₀ l_out₀ s t 0 0
   begin s t e f =
       record {
-        k_held = record { few = omega arith; low = omega arith };
-        l_held = record { few = omega arith; low = omega arith };
         level = omega arith;
         k_long = refl;
         l_long = g.equal;
@@ -103,13 +98,13 @@ module _ {k l k_out₀ l_out₀ : List ℕ} (g : Given k l k_out₀ l_out₀) wh
 
   module _ {k_out l_out : List ℕ} {place weight : ℕ} where
     -- the low bits are filled up
-    pub refill : (s s' t t' : Low) → remaining k s' ≡ remaining k s → Held s' → remaining l t' ≡ remaining l t → Held t' → s'.bits ≡ t'.bits
+    pub refill : (s s' t t' : Low) → remaining k s' ≡ remaining k s → remaining l t' ≡ remaining l t → s'.bits ≡ t'.bits
         → State k l k_out₀ k_out l_out s t place weight → State k l k_out₀ k_out l_out s' t' place weight
-    refill s s' t t' e h f h' b st =
-        record { k_held = h; l_held = h'; level = b; k_long = st.k_long; l_long = st.l_long; turn = moved (sym e) (sym f) st.turn }
+    refill s s' t t' e f b st =
+        record { level = b; k_long = st.k_long; l_long = st.l_long; turn = moved (sym e) (sym f) st.turn }
 
     pub finish : (s t : Low) → ((s.low ≡ 0) × (length k ≤ s.at)) × ((t.low ≡ 0) × (length l ≤ t.at)) → State k l k_out₀ k_out l_out s t place weight
-        → (Written place weight ≡ wrote_columns (joint (pos (little k)) (pos (little l)))) × ((r : Two) → of k_out l_out r ≡ filled (Column.row two r (joint (pos (little k)) (pos (little l)))) (of k_out₀ l_out₀ r))
+        → (of_size place weight ≡ columns_size (joint (pos (little k)) (pos (little l)))) × ((r : Two) → of k_out l_out r ≡ filled (Column.row two r (joint (pos (little k)) (pos (little l)))) (of k_out₀ l_out₀ r))
     finish s t e st =
         stop (little k) (little l) (length k_out₀) g.fits (of k_out₀ l_out₀) sizes
         (moved (remaining_zero k s (length k) g.k_in_use e.0) (remaining_zero l t (length l) g.l_in_use e.1) st.turn)
@@ -123,9 +118,7 @@ module _ {k l k_out₀ l_out₀ : List ℕ} (g : Given k l k_out₀ l_out₀) wh
         → State k l k_out₀ k_out l_out s t place weight → State k l k_out₀ k_out l_out s' t' (place + z) weight
     skipped s t s' t' z v w going st =
         record {
-          k_held = v.shifted.0;
-          l_held = w.shifted.0;
-          level = omega (arith, st.level, v.shifted.1.1.0, w.shifted.1.1.0);
+          level = omega (arith, st.level, v.shifted.1.0, w.shifted.1.0);
           k_long = st.k_long;
           l_long = st.l_long;
           turn =
@@ -144,21 +137,19 @@ module _ {k l k_out₀ l_out₀ : List ℕ} (g : Given k l k_out₀ l_out₀) wh
       -- a column is stored, where one of the remainders is odd
       pub stored : 3 ≤ s.bits → 3 ≤ t.bits → 1 ≤ s.low % 2 + t.low % 2 → (c d : ℤ) → c ≡ digit (pos (s.low % 64)) (pos (t.low % 64)) → d ≡ digit (pos (t.low % 64)) (pos (s.low % 64))
           → (b e : ℕ) → b ≡ byte_of c → e ≡ byte_of d → (s' t' : Low)
-          → Held s' × ((s'.at ≡ s.at) × ((s'.bits + 1 ≡ s.bits) × (pos s'.low ≡ half (pos s.low -ℤ c))))
-          → Held t' × ((t'.at ≡ t.at) × ((t'.bits + 1 ≡ t.bits) × (pos t'.low ≡ half (pos t.low -ℤ d))))
+          → (s'.at ≡ s.at) × ((s'.bits + 1 ≡ s.bits) × (pos s'.low ≡ half (pos s.low -ℤ c)))
+          → (t'.at ≡ t.at) × ((t'.bits + 1 ≡ t.bits) × (pos t'.low ≡ half (pos t.low -ℤ d)))
           → State k l k_out₀ (set k_out place b) (set l_out place e) s' t' (place + 1) (weight + 1)
       stored p q o c d x y b e u v s' t' h h' =
           record {
-            k_held = h.0;
-            l_held = h'.0;
-            level = omega (arith, st.level, h.1.1.0, h'.1.1.0);
+            level = omega (arith, st.level, h.1.0, h'.1.0);
             k_long = length-set k_out place b ∙ st.k_long;
             l_long = length-set l_out place e ∙ st.l_long;
             turn =
                 relaid sets
                 (store (little k) (little l) (length k_out₀) g.fits (of b e) (remaining k s') (remaining l t') (some s t going)
                 (omega (arith, o, low_bits k s 1 (omega arith), low_bits l t 1 (omega arith))) bytes
-                (next s t c x k l p q s' h.1) (next t s d y l k q p t' h'.1) st.turn);
+                (next s t c x k l p q s' h) (next t s d y l k q p t' h') st.turn);
           }
         where
           bytes : (r : Two) → of b e r ≡ byte_of (digit (of (pos (remaining k s)) (pos (remaining l t)) r) (of (pos (remaining l t)) (pos (remaining k s)) r))

@@ -20,8 +20,7 @@ use Rattle.forms.specs.Joint.Rule.{BothZero}
 use Rattle.forms.proofs.Laws.Joint.Rule.{joint_unfold, joint_zero}
 use Rattle.forms.proofs.Laws.Joint.Value.{column_digit}
 use Rattle.forms.proofs.Laws.Joint.Zeros.{joint_zeros}
-use Rattle.recode.specs.declared.answer.Recoded.TheVariants.{Written}
-use Rattle.recode.specs.Call.{wrote_columns, filled}
+use Rattle.recode.specs.Call.{of_size, columns_size, filled}
 use Rattle.recode.proofs.Laid.{Laid, laid_none, laid_zeros, laid_digit}
 
 -- done stands in the buffers, and the columns of k and l are still to come
@@ -125,11 +124,11 @@ module _ (k₀ l₀ n : ℕ) (fits : length (joint (pos k₀) (pos l₀)) ≤ n)
 
   -- at 0, 0 the columns are done
   pub stop : {place weight : ℕ} {out : Two → List ℕ} (out₀ : Two → List ℕ) → ((r : Two) → length (out₀ r) ≡ n) → Turn k₀ l₀ n 0 0 out place weight
-      → (Written place weight ≡ wrote_columns (joint (pos k₀) (pos l₀))) × ((r : Two) → out r ≡ filled (Column.row two r (joint (pos k₀) (pos l₀))) (out₀ r))
+      → (of_size place weight ≡ columns_size (joint (pos k₀) (pos l₀))) × ((r : Two) → out r ≡ filled (Column.row two r (joint (pos k₀) (pos l₀))) (out₀ r))
   stop {place} {weight} {out} out₀ e t =
       let all : joint (pos k₀) (pos l₀) ≡ t.done =
       t.whole ∙ ap (λ (cs : List Two.Column). t.done ++ cs) joint_zero ∙ append-nil t.done
       in (
-        ap₂ Written (sym (ap length all ∙ sym (row_length two P t.done) ∙ (t.laid P).places)) (t.heavy ∙ ap (Column.weight two) (sym all)),
+        ap₂ of_size (sym (ap length all ∙ sym (row_length two P t.done) ∙ (t.laid P).places)) (t.heavy ∙ ap (Column.weight two) (sym all)),
         λ r. (t.laid r).buffer ∙ rw (all, e r, (t.laid r).places),
       )

@@ -15,7 +15,7 @@ use Rattle.digits.specs.Integer.Parts.{difference, one_side}
 use Rattle.digits.specs.Scalar.Length.{below_length, length_least}
 use Rattle.digits.specs.Scalar.{little, bit_length}
 use Rattle.recode.specs.declared.low.Low.{Low}
-use Rattle.recode.specs.Body.Remainder.{remaining, Held}
+use Rattle.recode.specs.Body.Remainder.{remaining}
 use Rattle.recode.proofs.LowBits.{half_parts}
 
 pub remaining_new : (bytes : List ℕ) (s : Low) → (s.at ≡ 0) × ((s.bits ≡ 0) × (s.low ≡ 0)) → remaining bytes s ≡ little bytes
@@ -29,20 +29,20 @@ remaining_new bytes s e =
 -- without z zeros
 pub record Without (s t : Low) (z : ℕ) : Type 0 where
   pub zeros : s.low ≡ 2 ^ z * (s.low / 2 ^ z)
-  pub shifted : Held t × ((t.at ≡ s.at) × ((t.bits + z ≡ s.bits) × (t.low ≡ s.low / 2 ^ z)))
+  pub shifted : (t.at ≡ s.at) × ((t.bits + z ≡ s.bits) × (t.low ≡ s.low / 2 ^ z))
 
 module _ {s t : Low} {z : ℕ} (w : Without s t z) where
   pub remaining_shifted : (bytes : List ℕ) → remaining bytes s ≡ 2 ^ z * remaining bytes t
   unfolding remaining
   remaining_shifted bytes =
-      let h = w.shifted.1 in
+      let h = w.shifted in
       let power : 2 ^ s.bits ≡ 2 ^ z * 2 ^ t.bits = ap (λ (n : ℕ). 2 ^ n) (sym h.1.0) ∙ pow-add 2 t.bits z ∙ omega arith in
       rw (power, h.0, h.1.1) (omega (arith, w.zeros))
 
   -- and something is still left
   pub still : (used : ℕ) → (s.low ≡ 0 → s.at < used) → t.low ≡ 0 → t.at < used
   still used going n =
-      let h = w.shifted.1 in
+      let h = w.shifted in
       let none : s.low ≡ 0 = w.zeros ∙ ap (λ (q : ℕ). 2 ^ z * q) (sym h.1.1 ∙ n) ∙ omega arith in
       omega (arith, h.0, going none)
 

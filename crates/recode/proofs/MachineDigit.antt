@@ -11,7 +11,6 @@ use Rattle.digits.specs.Integer.{half}
 use Rattle.digits.specs.Integer.Parts.{size, mag_size}
 use Rattle.digits.specs.Integer.Machine.{read_back}
 use Rattle.recode.specs.declared.low.Low.{Low}
-use Rattle.recode.specs.Body.Remainder.{Held}
 
 module _ (d : ℤ) (h : nat_abs d ≤ 31) where
   pub fits_byte : SFits w8 d
@@ -26,11 +25,11 @@ module _ (d : ℤ) (h : nat_abs d ≤ 31) where
   pub as_byte : to_z w8 (of_z w8 (to_z w16 (of_z w16 d))) ≡ d
   as_byte = ap (λ (x : ℤ). to_z w8 (of_z w8 x)) same ∙ to_z-of_z fits_byte
 
-  pub less_asks : (s : Low) → Held s → 1 ≤ s.bits → (k : ℕ) × (half (pos s.low -ℤ d) ≡ pos k)
-      → Held s × ((1 ≤ s.bits) × ((nat_abs (to_z w16 (of_z w16 d)) ≤ 31) × ((k : ℕ) × (half (pos s.low -ℤ to_z w16 (of_z w16 d)) ≡ pos k))))
-  less_asks s g b k =
-      (g, (b, subst (λ (x : ℤ). (nat_abs x ≤ 31) × ((k : ℕ) × (half (pos s.low -ℤ x) ≡ pos k))) (sym same) (h, k)))
+  pub less_asks : (s : Low) → 1 ≤ s.bits → (k : ℕ) × (half (pos s.low -ℤ d) ≡ pos k)
+      → (1 ≤ s.bits) × ((nat_abs (to_z w16 (of_z w16 d)) ≤ 31) × ((k : ℕ) × (half (pos s.low -ℤ to_z w16 (of_z w16 d)) ≡ pos k)))
+  less_asks s b k =
+      (b, subst (λ (x : ℤ). (nat_abs x ≤ 31) × ((k : ℕ) × (half (pos s.low -ℤ x) ≡ pos k))) (sym same) (h, k))
 
-  pub less_says : (s t : Low) → Held t × ((t.at ≡ s.at) × ((t.bits + 1 ≡ s.bits) × (pos t.low ≡ half (pos s.low -ℤ to_z w16 (of_z w16 d)))))
-      → Held t × ((t.at ≡ s.at) × ((t.bits + 1 ≡ s.bits) × (pos t.low ≡ half (pos s.low -ℤ d))))
-  less_says s t e = (e.0, (e.1.0, (e.1.1.0, e.1.1.1 ∙ ap (λ (x : ℤ). half (pos s.low -ℤ x)) same)))
+  pub less_says : (s t : Low) → (t.at ≡ s.at) × ((t.bits + 1 ≡ s.bits) × (pos t.low ≡ half (pos s.low -ℤ to_z w16 (of_z w16 d))))
+      → (t.at ≡ s.at) × ((t.bits + 1 ≡ s.bits) × (pos t.low ≡ half (pos s.low -ℤ d)))
+  less_says s t e = (e.0, (e.1.0, e.1.1 ∙ ap (λ (x : ℤ). half (pos s.low -ℤ x)) same))

@@ -17,8 +17,7 @@ use Rattle.forms.proofs.Laws.Row.Digit.{digit_meets}
 use Rattle.forms.specs.Row.OddDigit.{digit_cases}
 use Rattle.forms.proofs.Laws.Row.Natural.{row_zeros}
 use Rattle.forms.proofs.Laws.Row.Only.{row_zero, row_unfold}
-use Rattle.recode.specs.declared.answer.Recoded.TheVariants.{Written}
-use Rattle.recode.specs.Call.{wrote_row, filled}
+use Rattle.recode.specs.Call.{of_size, row_size, filled}
 use Rattle.recode.proofs.Laid.{Laid, laid_none, laid_zeros, laid_digit}
 
 -- done stands in the buffer, and the row of r is still to come
@@ -82,8 +81,8 @@ module _ (m c P : ℕ) (h : 1 ≤ m) (fits : length (row m (pos c)) ≤ P) where
 
   -- at 0 the row is done
   pub stop : {place weight : ℕ} {out : List ℕ} (out₀ : List ℕ) → length out₀ ≡ P → Turn m c P 0 out place weight
-      → (Written place weight ≡ wrote_row (row m (pos c))) × (out ≡ filled (row m (pos c)) out₀)
+      → (of_size place weight ≡ row_size (row m (pos c))) × (out ≡ filled (row m (pos c)) out₀)
   stop {place} {weight} {out} out₀ e t =
       let all : row m (pos c) ≡ t.done = t.whole ∙ ap (λ (l : List ℤ). t.done ++ l) (row_zero m) ∙ append-nil t.done in
       let long : place ≡ length (row m (pos c)) = sym (ap length all ∙ t.laid.places) in
-      (ap₂ Written long (t.heavy ∙ ap Rows.weight (sym all)), t.laid.buffer ∙ rw (all, e, t.laid.places))
+      (ap₂ of_size long (t.heavy ∙ ap Rows.weight (sym all)), t.laid.buffer ∙ rw (all, e, t.laid.places))

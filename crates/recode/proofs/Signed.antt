@@ -3,12 +3,10 @@
 use mathlib.Core.Path.{◌≡◌, refl, sym, ap, ap₂, ◌∙◌}
 use mathlib.Core.Logic.{◌≢◌}
 use mathlib.Core.List.{List, [], ◌∷◌, ◌++◌, map}
-use Prim.Native.Nat.{ℕ, zero, suc, ◌+◌, ◌-◌, ◌≤◌, ◌<◌}
-use native.Mathlib.Nat.{le_of_suc-le-suc}
-use native.Mathlib.Numerals.{add-one}
+use Prim.Native.Nat.{ℕ, zero, suc, ◌-◌, ◌≤◌}
 use native.Mathlib.Omega.{arith}
 use lib.IntN.{ℤ, pos, neg_ℤ}
-use lib.ListN.{length, get_or, set, take, drop, replicate, length-map, length-append}
+use lib.ListN.{length, take, drop, replicate, length-map, length-append}
 use lib.Seq.{take_at, drop_at}
 use Rattle.digits.specs.Byte.{byte_of, turned}
 use Rattle.digits.proofs.Laws.Byte.Signed.{byte_negated}
@@ -22,26 +20,9 @@ use Rattle.forms.specs.Joint.{joint}
 use Rattle.forms.proofs.Laws.Joint.Negated.{joint_negates, joint_signed_size}
 use Rattle.forms.specs.Row.{row}
 use Rattle.forms.proofs.Laws.Row.Negated.{row_signed}
-use Rattle.recode.specs.declared.answer.Recoded.TheVariants.{Written}
 use Rattle.recode.specs.Body.Sign.{signed_below}
-use Rattle.recode.specs.Call.{wrote_row, wrote_columns, filled}
+use Rattle.recode.specs.Call.{wrote, wrote_row, wrote_columns, filled}
 use Rattle.recode.specs.Call.Joint.{digits_of}
-
--- one digit more is turned
-turn : (i : ℕ) (row : List ℕ) → i < length row
-    → set (signed_below 1 i row) i (turned (get_or (signed_below 1 i row) i 0)) ≡ signed_below 1 (suc i) row
-turn i [] l = absurd (omega arith)
-turn zero (b ∷ row) l = refl
-turn (suc i) (b ∷ row) l = ap (λ (bs : List ℕ). turned b ∷ bs) (turn i row (le_of_suc-le-suc l))
-
-pub turn_more : (i : ℕ) (row : List ℕ) → i < length row
-    → set (signed_below 1 i row) i (turned (get_or (signed_below 1 i row) i 0)) ≡ signed_below 1 (i + 1) row
-turn_more i row l = rw (add-one i) (turn i row l)
-
--- until all are
-pub turn_all : (row : List ℕ) → signed_below 1 (length row) row ≡ map turned row
-turn_all [] = refl
-turn_all (b ∷ row) = ap (λ (bs : List ℕ). turned b ∷ bs) (turn_all row)
 
 -- any sign but 0 is minus
 pub minus_below : (sign places : ℕ) (row : List ℕ) → sign ≢ 0 → map turned (take places row) ++ drop places row ≡ signed_below sign places row
@@ -79,7 +60,7 @@ module _ (s : List ℕ) (sign m : ℕ) (h : 1 ≤ m) where
 
   pub wrote_signed_row : wrote_row (row m (pos (scalar s))) ≡ wrote_row (row m (signed_scalar s sign))
   wrote_signed_row =
-      sym (ap wrote_row row_is ∙ ap₂ Written (length-map (row m (pos (scalar s))) (signed_by sign)) (weight_signed sign (row m (pos (scalar s)))))
+      sym (ap wrote_row row_is ∙ ap₂ wrote (length-map (row m (pos (scalar s))) (signed_by sign)) (weight_signed sign (row m (pos (scalar s)))))
 
 module _ (s : List ℕ) (s_sign : ℕ) (t : List ℕ) (t_sign : ℕ) where
   pub signed_columns : (r : Two) (n : ℕ) (buffer : List ℕ) → n ≡ length (joint (pos (scalar s)) (pos (scalar t)))
@@ -93,4 +74,4 @@ module _ (s : List ℕ) (s_sign : ℕ) (t : List ℕ) (t_sign : ℕ) where
   pub wrote_signed_columns : wrote_columns (joint (pos (scalar s)) (pos (scalar t))) ≡ wrote_columns (joint (signed_scalar s s_sign) (signed_scalar t t_sign))
   unfolding signed_scalar
   wrote_signed_columns =
-      let same = joint_signed_size (pos (scalar s)) (pos (scalar t)) s_sign t_sign in sym (ap₂ Written same.0 same.1)
+      let same = joint_signed_size (pos (scalar s)) (pos (scalar t)) s_sign t_sign in sym (ap₂ wrote same.0 same.1)

@@ -4,47 +4,59 @@ pub mod Short
 pub mod Row
 pub mod Joint
 pub mod Lent
-use Rattle.std.specs.Prelude.{◌≡◌, ◌≢◌, Bool, ◌&&◌, cond, List, [], ◌∷◌, ◌++◌, map, ℕ, suc, ◌+◌, ◌-◌, ◌*◌, ◌≤◌, max, leb, length, get_or, replicate, ℤ, pos, nat_abs}
+use Rattle.std.specs.Prelude.{◌≡◌, ◌≢◌, Bool, ◌&&◌, cond, List, [], ◌∷◌, ◌++◌, map, ℕ, suc, ◌+◌, ◌-◌, ◌*◌, ◌≤◌, max, leb, length, get_or, replicate, ℤ, pos, nat_abs, Result, Ok, Err}
 use Rattle.digits.specs.Buffer.{row_below, columns_below}
 use Rattle.digits.specs.Byte.{byte_of}
 use Rattle.digits.specs.Column as Columns
 use Rattle.digits.specs.declared.limits.Limits.{Limits}
-use Rattle.digits.specs.Missed.{missed}
+use Rattle.digits.specs.Missed.{missed, number_of}
+use Rattle.digits.specs.declared.missed.Missed.{Missed}
+use Rattle.digits.specs.declared.missed.Missed.TheVariants.{BadScalar, BadWindow, NoRoom}
 use Rattle.digits.specs.Row.{is_window, value, weight, Over}
 use Rattle.digits.specs.Scalar.{signed_scalar, sized, bit_length}
 use Rattle.digits.specs.Two.{Column, Two, P, Q, of, two}
 use Rattle.forms.specs.Joint.{Keeps, Topped, joint}
 use Rattle.forms.specs.Row.{RowRule, row}
-use Rattle.recode.specs.declared.answer.Recoded.{Recoded}
-use Rattle.recode.specs.declared.answer.Recoded.TheVariants.{BadScalar, BadWindow, NoRoom, Written}
+use Rattle.recode.specs.declared.answer.Written.{Written}
+
+-- what a call answers: what was written, or the question missed
+abbrev pub Recoded : Type 0
+Recoded = Result Written Missed
 
 -- the number of the question missed, 0 where none is
 abbrev pub number : Recoded → ℕ
-number BadScalar = 1
-number BadWindow = 2
-number NoRoom = 3
-number (Written n w) = 0
+number = number_of
 
 -- how many places were written
 abbrev pub places_written : Recoded → ℕ
-places_written BadScalar = 0
-places_written BadWindow = 0
-places_written NoRoom = 0
-places_written (Written n w) = n
+places_written (Ok w) = w.length
+places_written (Err e) = 0
 
 -- how many of the digits written are not 0, and of a joint form how many of the columns are not zero
 abbrev pub weight_written : Recoded → ℕ
-weight_written BadScalar = 0
-weight_written BadWindow = 0
-weight_written NoRoom = 0
-weight_written (Written n w) = w
+weight_written (Ok w) = w.weight
+weight_written (Err e) = 0
+
+-- n places of the weight w, and the answer of a call that has written them
+abbrev pub of_size : ℕ → ℕ → Written
+of_size n w = record { length = n; weight = w }
+
+abbrev pub wrote : ℕ → ℕ → Recoded
+wrote n w = Ok (of_size n w)
+
+-- the length and the weight of a row, and of columns
+abbrev pub row_size : List ℤ → Written
+row_size ds = of_size (length ds) (weight ds)
+
+abbrev pub columns_size : List Column → Written
+columns_size cs = of_size (length cs) (Columns.weight two cs)
 
 -- the answer of a call that has written a row, and of one that has written columns
 abbrev pub wrote_row : List ℤ → Recoded
-wrote_row ds = Written (length ds) (weight ds)
+wrote_row ds = Ok (row_size ds)
 
 abbrev pub wrote_columns : List Column → Recoded
-wrote_columns cs = Written (length cs) (Columns.weight two cs)
+wrote_columns cs = Ok (columns_size cs)
 
 -- 3. has the digit buffer at least 8 × bytes + 1 places?
 abbrev pub roomy : ℕ → ℕ → Bool
@@ -56,10 +68,8 @@ filled ds buffer = map byte_of ds ++ replicate (length buffer - length ds) 0
 
 -- the buffer after a call: filled, or as lent where a question was missed
 abbrev pub left : Recoded → List ℤ → List ℕ → List ℕ
-left BadScalar ds buffer = buffer
-left BadWindow ds buffer = buffer
-left NoRoom ds buffer = buffer
-left (Written n w) ds buffer = filled ds buffer
+left (Ok w) ds buffer = filled ds buffer
+left (Err e) ds buffer = buffer
 
 -- ── a row ───────────────────────────────────────────────────────────────────────────────────
 
@@ -70,7 +80,7 @@ row_question limits s m places = missed ((1, sized limits s) ∷ (2, is_window m
 -- the answer of a call that writes the row ds: the first question missed, or the row's length and weight
 unfoldable pub answer_with : Limits → List ℕ → ℕ → List ℤ → ℕ → Recoded
 answer_with limits s m ds places =
-    cond (sized limits s) (cond (is_window m) (cond (roomy (length s) places) (wrote_row ds) NoRoom) BadWindow) BadScalar
+    cond (sized limits s) (cond (is_window m) (cond (roomy (length s) places) (wrote_row ds) (Err NoRoom)) (Err BadWindow)) (Err BadScalar)
 
 -- the buffer
 unfoldable pub buffer_with : Limits → List ℕ → ℕ → List ℤ → List ℕ → List ℕ
@@ -98,10 +108,8 @@ pub record RowBy (R : List ℤ → Type 0) (m : ℕ) (c : ℤ) (w : ℕ) (ds : L
 
 -- where n places were written, the row below n is such a one
 abbrev pub PromisedBy : (List ℤ → Type 0) → ℕ → ℤ → Recoded → List ℕ → Type 0
-PromisedBy R m c BadScalar buffer = Unit {0}
-PromisedBy R m c BadWindow buffer = Unit {0}
-PromisedBy R m c NoRoom buffer = Unit {0}
-PromisedBy R m c (Written n w) buffer = RowBy R m c w (row_below n buffer)
+PromisedBy R m c (Ok w) buffer = RowBy R m c w.weight (row_below w.length buffer)
+PromisedBy R m c (Err e) buffer = Unit {0}
 
 -- the same where the row is to be 01's
 abbrev pub RowOf : ℕ → ℤ → ℕ → List ℤ → Type 0
@@ -123,8 +131,8 @@ joint_answer limits s s_sign t t_sign places places' =
     cond (sized limits s && sized limits t)
     (cond (roomy (max (length s) (length t)) places && roomy (max (length s) (length t)) places')
     (wrote_columns (joint (signed_scalar s s_sign) (signed_scalar t t_sign)))
-    NoRoom)
-    BadScalar
+    (Err NoRoom))
+    (Err BadScalar)
 
 -- one of the two buffers
 unfoldable pub joint_buffer : Limits → Two → List ℕ → ℕ → List ℕ → ℕ → List ℕ → List ℕ → List ℕ
@@ -150,7 +158,5 @@ pub record JointOf (k l : ℤ) (w : ℕ) (cs : List Column) : Type 0 where
 
 -- where n places were written, the columns below n are such ones
 abbrev pub JointPromised : ℤ → ℤ → Recoded → List ℕ → List ℕ → Type 0
-JointPromised k l BadScalar buffer buffer' = Unit {0}
-JointPromised k l BadWindow buffer buffer' = Unit {0}
-JointPromised k l NoRoom buffer buffer' = Unit {0}
-JointPromised k l (Written n w) buffer buffer' = JointOf k l w (columns_below n buffer buffer')
+JointPromised k l (Ok w) buffer buffer' = JointOf k l w.weight (columns_below w.length buffer buffer')
+JointPromised k l (Err e) buffer buffer' = Unit {0}

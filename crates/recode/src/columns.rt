@@ -1,18 +1,16 @@
 ghost use Rattle.std.specs.Prelude.{◌≡◌, true, false, ◌⊎◌, ◌+◌, ◌*◌, ◌/◌, ◌%◌, ◌^◌, ◌<◌, ◌≤◌, max, pos, length, replicate};
 ghost use Rattle.digits.specs.Column;
-ghost use Rattle.digits.specs.Limits.{card, gateway};
-ghost use Rattle.digits.specs.Scalar;
-ghost use Rattle.digits.specs.Scalar.{little, signed_scalar, bit_length};
+ghost use Rattle.digits.specs.Limits.{gateway};
+ghost use Rattle.digits.specs.Scalar.{little, scalar, signed_scalar, bit_length};
 ghost use Rattle.digits.specs.Two.{P, Q, two};
 ghost use Rattle.forms.specs.Joint;
-ghost use Rattle.recode.specs.Body.Remainder.{Held};
 ghost use Rattle.recode.specs.Body.Table.{DigitTable};
-ghost use Rattle.recode.specs.Call.Joint.{digits_of};
-ghost use Rattle.recode.specs.Call.{number, wrote_columns, joint_question, joint_answer, joint_buffer, JointPromised, filled};
+ghost use Rattle.recode.specs.Call.{number, columns_size, joint_question, joint_answer, joint_buffer, JointPromised, filled};
 
-use crate::answer::Recoded;
+use crate::answer::Written;
 use crate::low::Low;
-use digits::Limits;
+use crate::rows::{bits_of, ended};
+use digits::{Limits, Missed, Scalar};
 
 // The joint digits: a line for each remainder by eight of a number, an entry for each that the other number can have.
 #[rattlefmt::skip]
@@ -54,28 +52,25 @@ fn joint_digit(table: &[i8; 64], x: u16, y: u16) -> i16
 fn both_ended(k: Low, l: Low, k_used: usize, l_used: usize) -> bool
     ensures { (result ≡ true → ((k.low ≡ 0) × (k_used ≤ k.at)) × ((l.low ≡ 0) × (l_used ≤ l.at))) × (result ≡ false → (k.low ≡ 0 → k.at < k_used) ⊎ (l.low ≡ 0 → l.at < l_used)) }
 {
-    if crate::rows::ended(k, k_used) {
-        return crate::rows::ended(l, l_used);
-    }
-    false
+    ended(k, k_used) && ended(l, l_used)
 }
 
 // How many zeros stand below the lowest one of either number: all of the low bits where both are 0.
 fn both_zeros(k: Low, l: Low) -> u32
-    requires { (Held k × Held l) × ((k.bits ≡ l.bits) × (16 ≤ k.bits)) }
+    requires { (k.bits ≡ l.bits) × (16 ≤ k.bits) }
     ensures zeros { (result ≤ k.bits) × ((k.low ≡ 2 ^ result * (k.low / 2 ^ result)) × (l.low ≡ 2 ^ result * (l.low / 2 ^ result))) }
     ensures ended { result < k.bits → 1 ≤ k.low / 2 ^ result % 2 + l.low / 2 ^ result % 2 }
 {
-    crate::low::zeros_of(k.low | l.low, k.bits)
+    crate::bits::zeros_of(k.low | l.low, k.bits)
 }
 
 // Writes the joint columns of two numbers' bytes, of which the top ones are not 0, into places that hold 0. Zero columns are skipped, so
-// every column that is stored counts.
-fn write_columns(k: &[u8], l: &[u8], k_out: &mut [u8], l_out: &mut [u8]) -> Recoded
+// every column that is stored counts. A `loop`, since no iterator knows how many places a turn takes.
+fn write_columns(k: &[u8], l: &[u8], k_out: &mut [u8], l_out: &mut [u8]) -> Written
     requires trimmed { (length k.now ≡ (bit_length (little k.now) + 7) / 8) × (length l.now ≡ (bit_length (little l.now) + 7) / 8) }
     requires cleared { (k_out.old ≡ replicate (length k_out.old) 0) × (l_out.old ≡ replicate (length k_out.old) 0) }
     requires room { length (Joint.joint (pos (little k.now)) (pos (little l.now))) ≤ length k_out.old }
-    ensures answer { result ≡ wrote_columns (Joint.joint (pos (little k.now)) (pos (little l.now))) }
+    ensures answer { result ≡ columns_size (Joint.joint (pos (little k.now)) (pos (little l.now))) }
     ensures first { k_out.new ≡ filled (Column.row two P (Joint.joint (pos (little k.now)) (pos (little l.now)))) k_out.old }
     ensures second { l_out.new ≡ filled (Column.row two Q (Joint.joint (pos (little k.now)) (pos (little l.now)))) l_out.old }
 {
@@ -88,7 +83,10 @@ fn write_columns(k: &[u8], l: &[u8], k_out: &mut [u8], l_out: &mut [u8]) -> Reco
         let k_full = k_low.filled(k);
         let l_full = l_low.filled(l);
         if both_ended(k_full, l_full, k.len(), l.len()) {
-            return Recoded::Written(place, weight);
+            return Written {
+                length: place,
+                weight,
+            };
         }
         let zeros = both_zeros(k_full, l_full);
         let k_odd = k_full.shifted(zeros);
@@ -112,15 +110,8 @@ fn write_columns(k: &[u8], l: &[u8], k_out: &mut [u8], l_out: &mut [u8]) -> Reco
     }
 }
 
-// The larger of two numbers.
-fn larger(a: usize, b: usize) -> usize
-    ensures { result ≡ max a b }
-{
-    if a < b { b } else { a }
-}
-
-// Writes the joint columns of two scalars, a row into each buffer, and zeros above them. Of each buffer only the places up to
-// the longer bit length plus one are lent to the digits. The remainders are lent as zeros and take the scalars' bytes.
+// Writes the joint columns of two scalars' bytes, a row into each buffer, and zeros above them. Of each buffer only the places up to
+// the longer bit length plus one are lent to the digits. The remainders are lent as zeros and take the bytes.
 fn write_joint(
     k: &[u8],
     l: &[u8],
@@ -128,18 +119,18 @@ fn write_joint(
     l_out: &mut [u8],
     k_remainder: &mut [u8],
     l_remainder: &mut [u8],
-) -> Recoded
+) -> Written
     requires scalars { (length k.now ≤ gateway.bytes) × (length l.now ≤ gateway.bytes) }
     requires room { (8 * max (length k.now) (length l.now) + 1 ≤ length k_out.old) × (8 * max (length k.now) (length l.now) + 1 ≤ length l_out.old) }
     requires first_remainder { (length k.now ≤ length k_remainder.old) × (k_remainder.old ≡ replicate (length k_remainder.old) 0) }
     requires second_remainder { (length l.now ≤ length l_remainder.old) × (l_remainder.old ≡ replicate (length l_remainder.old) 0) }
-    ensures answer { result ≡ wrote_columns (Joint.joint (pos (Scalar.scalar k.now)) (pos (Scalar.scalar l.now))) }
-    ensures first { k_out.new ≡ filled (Column.row two P (Joint.joint (pos (Scalar.scalar k.now)) (pos (Scalar.scalar l.now)))) k_out.old }
-    ensures second { l_out.new ≡ filled (Column.row two Q (Joint.joint (pos (Scalar.scalar k.now)) (pos (Scalar.scalar l.now)))) l_out.old }
+    ensures answer { result ≡ columns_size (Joint.joint (pos (scalar k.now)) (pos (scalar l.now))) }
+    ensures first { k_out.new ≡ filled (Column.row two P (Joint.joint (pos (scalar k.now)) (pos (scalar l.now)))) k_out.old }
+    ensures second { l_out.new ≡ filled (Column.row two Q (Joint.joint (pos (scalar k.now)) (pos (scalar l.now)))) l_out.old }
 {
-    let k_bits = crate::rows::bits_of(k);
-    let l_bits = crate::rows::bits_of(l);
-    let places = larger(k_bits, l_bits) + 1;
+    let k_bits = bits_of(k);
+    let l_bits = bits_of(l);
+    let places = k_bits.max(l_bits) + 1;
     crate::buffer::copy_into(k, k_remainder);
     crate::buffer::copy_into(l, l_remainder);
     digits::clear(k_out);
@@ -154,131 +145,39 @@ fn write_joint(
     )
 }
 
-// Writes the joint columns of two scalars with signs: those of their bytes, and then each row's own sign.
-fn write_signed_joint(
-    k: &[u8],
-    k_sign: u32,
-    l: &[u8],
-    l_sign: u32,
-    k_out: &mut [u8],
-    l_out: &mut [u8],
-    k_remainder: &mut [u8],
-    l_remainder: &mut [u8],
-) -> Recoded
-    requires scalars { (length k.now ≤ gateway.bytes) × (length l.now ≤ gateway.bytes) }
-    requires room { (8 * max (length k.now) (length l.now) + 1 ≤ length k_out.old) × (8 * max (length k.now) (length l.now) + 1 ≤ length l_out.old) }
-    requires first_remainder { (length k.now ≤ length k_remainder.old) × (k_remainder.old ≡ replicate (length k_remainder.old) 0) }
-    requires second_remainder { (length l.now ≤ length l_remainder.old) × (l_remainder.old ≡ replicate (length l_remainder.old) 0) }
-    ensures answer { result ≡ wrote_columns (Joint.joint (signed_scalar k.now k_sign) (signed_scalar l.now l_sign)) }
-    ensures first { k_out.new ≡ filled (digits_of P k.now k_sign l.now l_sign) k_out.old }
-    ensures second { l_out.new ≡ filled (digits_of Q k.now k_sign l.now l_sign) l_out.old }
-{
-    let answer = write_joint(k, l, k_out, l_out, k_remainder, l_remainder);
-    let places = answer.places();
-    crate::sign::give_sign(k_out, places, k_sign);
-    crate::sign::give_sign(l_out, places, l_sign);
-    answer
-}
-
 // The joint call by any limits up to the gateway's, with remainders of more bytes than they allow.
-fn joint_within(
+#[tactic(auto, unfolding(crate::specs::Call::joint_answer, crate::specs::Call::joint_buffer))]
+pub fn joint_within(
     limits: Limits,
-    k: &[u8],
-    k_sign: u32,
-    l: &[u8],
-    l_sign: u32,
+    k: Scalar<'_>,
+    l: Scalar<'_>,
     k_digits: &mut [u8],
     l_digits: &mut [u8],
     k_remainder: &mut [u8],
     l_remainder: &mut [u8],
-) -> Recoded
+) -> Result<Written, Missed>
     requires limits { limits.bytes ≤ gateway.bytes }
     requires first_remainder { (limits.bytes < length k_remainder.old) × (k_remainder.old ≡ replicate (length k_remainder.old) 0) }
     requires second_remainder { (limits.bytes < length l_remainder.old) × (l_remainder.old ≡ replicate (length l_remainder.old) 0) }
-    ensures answer { result ≡ joint_answer limits k.now k_sign l.now l_sign (length k_digits.old) (length l_digits.old) }
-    ensures first { k_digits.new ≡ joint_buffer limits P k.now k_sign l.now l_sign k_digits.old l_digits.old }
-    ensures second { l_digits.new ≡ joint_buffer limits Q k.now k_sign l.now l_sign k_digits.old l_digits.old }
-    ensures promised { JointPromised (signed_scalar k.now k_sign) (signed_scalar l.now l_sign) result k_digits.new l_digits.new }
-    ensures question { number result ≡ joint_question limits k.now l.now (length k_digits.old) (length l_digits.old) }
+    ensures answer { result ≡ joint_answer limits k.entry.bytes.now k.entry.sign l.entry.bytes.now l.entry.sign (length k_digits.old) (length l_digits.old) }
+    ensures first { k_digits.new ≡ joint_buffer limits P k.entry.bytes.now k.entry.sign l.entry.bytes.now l.entry.sign k_digits.old l_digits.old }
+    ensures second { l_digits.new ≡ joint_buffer limits Q k.entry.bytes.now k.entry.sign l.entry.bytes.now l.entry.sign k_digits.old l_digits.old }
+    ensures promised { JointPromised (signed_scalar k.entry.bytes.now k.entry.sign) (signed_scalar l.entry.bytes.now l.entry.sign) result k_digits.new l_digits.new }
+    ensures question { number result ≡ joint_question limits k.entry.bytes.now l.entry.bytes.now (length k_digits.old) (length l_digits.old) }
 {
-    if digits::are_scalars(limits, k, l) {
-        let room = 8 * larger(k.len(), l.len()) + 1;
-        if k_digits.len() < room {
-            return Recoded::NoRoom;
-        }
-        if l_digits.len() < room {
-            return Recoded::NoRoom;
-        }
-        return write_signed_joint(
-            k,
-            k_sign,
-            l,
-            l_sign,
-            k_digits,
-            l_digits,
-            k_remainder,
-            l_remainder,
-        );
-    }
-    Recoded::BadScalar
-}
-
-// The joint sparse form of two scalars with signs: the digits of each row, from place 0 on, in bytes of two's complement.
-pub fn joint(
-    k: &[u8],
-    k_sign: u32,
-    l: &[u8],
-    l_sign: u32,
-    k_digits: &mut [u8],
-    l_digits: &mut [u8],
-) -> Recoded
-    ensures answer { result ≡ joint_answer card k.now k_sign l.now l_sign (length k_digits.old) (length l_digits.old) }
-    ensures first { k_digits.new ≡ joint_buffer card P k.now k_sign l.now l_sign k_digits.old l_digits.old }
-    ensures second { l_digits.new ≡ joint_buffer card Q k.now k_sign l.now l_sign k_digits.old l_digits.old }
-    ensures promised { JointPromised (signed_scalar k.now k_sign) (signed_scalar l.now l_sign) result k_digits.new l_digits.new }
-    ensures question { number result ≡ joint_question card k.now l.now (length k_digits.old) (length l_digits.old) }
-{
-    let mut k_remainder = [0u8; 67];
-    let mut l_remainder = [0u8; 67];
-    joint_within(
-        Limits::card(),
-        k,
-        k_sign,
-        l,
-        l_sign,
+    digits::check_scalars(k, l, limits)?;
+    let places = digits::places_for(k.bytes.len().max(l.bytes.len()));
+    digits::check_room(places, k_digits.len())?;
+    digits::check_room(places, l_digits.len())?;
+    let written = write_joint(
+        k.bytes,
+        l.bytes,
         k_digits,
         l_digits,
-        &mut k_remainder,
-        &mut l_remainder,
-    )
-}
-
-// The same for scalars of the gateway.
-pub fn gateway_joint(
-    k: &[u8],
-    k_sign: u32,
-    l: &[u8],
-    l_sign: u32,
-    k_digits: &mut [u8],
-    l_digits: &mut [u8],
-) -> Recoded
-    ensures answer { result ≡ joint_answer gateway k.now k_sign l.now l_sign (length k_digits.old) (length l_digits.old) }
-    ensures first { k_digits.new ≡ joint_buffer gateway P k.now k_sign l.now l_sign k_digits.old l_digits.old }
-    ensures second { l_digits.new ≡ joint_buffer gateway Q k.now k_sign l.now l_sign k_digits.old l_digits.old }
-    ensures promised { JointPromised (signed_scalar k.now k_sign) (signed_scalar l.now l_sign) result k_digits.new l_digits.new }
-    ensures question { number result ≡ joint_question gateway k.now l.now (length k_digits.old) (length l_digits.old) }
-{
-    let mut k_remainder = [0u8; 129];
-    let mut l_remainder = [0u8; 129];
-    joint_within(
-        Limits::gateway(),
-        k,
-        k_sign,
-        l,
-        l_sign,
-        k_digits,
-        l_digits,
-        &mut k_remainder,
-        &mut l_remainder,
-    )
+        k_remainder,
+        l_remainder,
+    );
+    crate::sign::give_sign(k_digits, written.length, k.sign);
+    crate::sign::give_sign(l_digits, written.length, l.sign);
+    Ok(written)
 }

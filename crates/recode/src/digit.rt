@@ -4,12 +4,16 @@ ghost use Rattle.digits.specs.Row.{widest};
 ghost use Rattle.forms.specs.Residue.{width};
 ghost use Rattle.forms.specs.Row.{digit};
 
-// 2^(W−1) of a window.
-pub fn half_of(m: u16) -> u16
-    requires { m ≤ widest }
-    ensures { result ≡ 2 ^ (width m - 1) }
-{
-    1u16 << (16 - u16::leading_zeros(m))
+use digits::Window;
+
+// How the digits of a window m are told: half is 2^(W−1).
+#[derive(Clone, Copy)]
+pub struct DigitRule {
+    pub m: u16,
+    pub half: u16,
+    ghost some: { 1 ≤ m },
+    ghost most: { m ≤ widest },
+    ghost is_half: { half ≡ 2 ^ (width m - 1) },
 }
 
 // A half for an x beyond the limit.
@@ -19,17 +23,30 @@ fn half_beyond(x: u16, limit: u16, half: u16) -> u16
     if limit < x { half } else { 0 }
 }
 
-// The digit of an odd x below 64 for the window m, whose 2^(W−1) is half: x modulo 2^W, less a half beyond m, and less
-// another beyond 2^W − 1 − m.
-pub fn digit_of(x: u16, m: u16, half: u16) -> i16
-    requires { (x < 64) × ((x % 2 ≡ 1) × ((1 ≤ m) × ((m ≤ widest) × (half ≡ 2 ^ (width m - 1))))) }
-    ensures { result ≡ digit m (pos x) }
-{
-    let all = 2 * half - 1;
-    let low = x & all;
-    let first = half_beyond(low, m, half);
-    let second = half_beyond(low, all - m, half);
-    low as i16 - (first + second) as i16
+impl DigitRule {
+    // The rule of a window.
+    pub fn new(window: Window) -> Self
+        ensures { result.m ≡ window }
+    {
+        let m = window.get() as u16;
+        DigitRule {
+            m,
+            half: 1u16 << (16 - m.leading_zeros()),
+        }
+    }
+
+    // The digit of an odd x below 64: x modulo 2^W, less a half beyond m, and less another beyond 2^W − 1 − m.
+    pub fn digit_of(self, x: u16) -> i16
+        requires { (x < 64) × (x % 2 ≡ 1) }
+        ensures { result ≡ digit self.m (pos x) }
+    {
+        let DigitRule { m, half } = self;
+        let all = 2 * half - 1;
+        let low = x & all;
+        let first = half_beyond(low, m, half);
+        let second = half_beyond(low, all - m, half);
+        low as i16 - (first + second) as i16
+    }
 }
 
 // What a digit leaves of x: (x − digit)/2.

@@ -2,13 +2,14 @@
 #![tactic(auto)]
 
 mod answer;
+mod bits;
 mod buffer;
 mod columns;
 mod digit;
 mod low;
+mod machine;
 mod rows;
 mod sign;
 
-pub use answer::Recoded;
-pub use columns::{gateway_joint, joint};
-pub use rows::{gateway_row, row};
+pub use answer::Written;
+pub use machine::Recode;

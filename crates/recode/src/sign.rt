@@ -1,22 +1,13 @@
 ghost use Rattle.std.specs.Prelude.{◌≡◌, map, ◌≤◌, length};
-ghost use Rattle.digits.specs.Byte;
+ghost use Rattle.digits.specs.Byte.{turned};
 ghost use Rattle.recode.specs.Body.Sign.{signed_below};
-
-// The byte of a digit with its sign turned.
-fn turned(byte: u8) -> u8
-    ensures { result ≡ Byte.turned byte }
-{
-    ((256 - byte as u16) % 256) as u8
-}
 
 // Turns the sign of every digit of a row.
 fn negate(row: &mut [u8])
-    ensures { row.new ≡ map Byte.turned row.old }
+    ensures { row.new ≡ map turned row.old }
 {
-    let mut i = 0;
-    while i < row.len() {
-        row[i] = turned(row[i]);
-        i += 1;
+    for byte in row.iter_mut() {
+        *byte = byte.wrapping_neg();
     }
 }
 

@@ -1,16 +1,19 @@
 -- The turns of the scans for a byte, and where the parts of a list begin. From the laws of Cut.
 use mathlib.Core.Path.{◌≡◌, refl, ap, subst, ◌∙◌}
 use mathlib.Core.Logic.{◌≢◌}
-use mathlib.Core.Bool.{Bool, true, false}
+use mathlib.Core.Bool.{Bool, true, false, cond}
 use mathlib.Core.List.{List, [], ◌∷◌, ◌++◌}
 use Prim.Native.Nat.{ℕ, zero, suc, ◌+◌, ◌-◌, ◌≤◌, ◌<◌}
 use native.Mathlib.Numerals.{add-one}
 use native.Mathlib.Omega.{arith}
 use lib.ListN.{length, get_or, take, drop, drop_of_length-le, length-drop}
-use lib.Seq.{drop-cons, take-suc, take_all, split_at, drop-drop}
+use lib.Seq.{take-suc, take_all, split_at, drop-drop}
+use lib.Dec.{eqb}
 use borrow.Author.Tests.{eq-eqb, ne_eqb}
+use Rattle.std.proofs.lemmas.List.Sums.{sum_by-cons}
+use Rattle.std.specs.List.{AllWithin, count_by}
 use Rattle.sheet.specs.Every.{empty, more, every_append}
-use Rattle.sheet.specs.Spelling.{cut, push, letter}
+use Rattle.sheet.specs.Spelling.{cut, push}
 use Rattle.sheet.specs.Spelling.Cut.{Lacks, cut_last, cut_more, cut_some}
 use Rattle.sheet.specs.Spelling.Field.{First, Behind}
 
@@ -19,21 +22,30 @@ module _ (b : ℕ) (s : List ℕ) (i : ℕ) (h : i < length s) where
   pub lacks_turn : get_or s i 0 ≢ b → Lacks b (take i s) → Lacks b (take (i + 1) s)
   lacks_turn n l = rw (add-one, take-suc s i 0 h) (every_append l (more n empty))
 
-  -- a byte b ends a part
-  pub cut_found : get_or s i 0 ≡ b → length (cut b (drop i s)) ≡ suc (length (cut b (drop (i + 1) s)))
-  unfolding cut
-  cut_found e = rw (drop-cons s i 0 h, eq-eqb (get_or s i 0) b e, add-one)
+-- the bytes below i are others
+lacks_below : (b : ℕ) (s : List ℕ) (i : ℕ) → i ≤ length s → AllWithin (λ c. c ≢ b) s 0 i → Lacks b (take i s)
+lacks_below b s zero h p = empty
+lacks_below b s (suc i) h p =
+    rw add-one at (lacks_turn b s i h (p i 0 (omega arith) (omega arith)) (lacks_below b s i (omega arith) (λ k d l m. p k d l (omega arith))))
 
-  pushed : (c : ℕ) (t : List ℕ) → length (push c (cut b t)) ≡ length (cut b t)
-  pushed c t = let (f, fs, e) = cut_some b t in rw e
+pub first_found : {b : ℕ} (s : List ℕ) {i : ℕ} → i < length s → get_or s i 0 ≡ b → AllWithin (λ c. c ≢ b) s 0 i → First b s i
+first_found {b} s {i} h e p = record { most = omega arith; lacks = lacks_below b s i (omega arith) p; found = λ l. e }
 
-  pub cut_passed : get_or s i 0 ≢ b → length (cut b (drop i s)) ≡ length (cut b (drop (i + 1) s))
-  unfolding cut
-  cut_passed n = rw (drop-cons s i 0 h, ne_eqb (get_or s i 0) b n, add-one) (pushed (get_or s i 0) (drop (suc i) s))
+pub first_none : {b : ℕ} (s : List ℕ) → AllWithin (λ c. c ≢ b) s 0 (length s) → First b s (length s)
+first_none {b} s p = record { most = omega arith; lacks = lacks_below b s (length s) (omega arith) p; found = λ l. absurd (omega arith) }
 
-pub cut_end : (b : ℕ) (s : List ℕ) (i : ℕ) → length s ≤ i → length (cut b (drop i s)) ≡ 1
+pushed : (b c : ℕ) (s : List ℕ) → length (push c (cut b s)) ≡ length (cut b s)
+pushed b c s = let (f, fs, e) = cut_some b s in rw e
+
+-- each byte b begins a part more
+pub cut_length : (b : ℕ) (s : List ℕ) → count_by (λ c. eqb c b) s + 1 ≡ length (cut b s)
 unfolding cut
-cut_end b s i h = rw (drop_of_length-le s h)
+cut_length b [] = refl
+cut_length b (c ∷ s) = rw (sum_by-cons (λ d. cond (eqb d b) 1 0) c s) (go (eqb c b) (cut_length b s))
+  where
+    go : (t : Bool) → count_by (λ d. eqb d b) s + 1 ≡ length (cut b s) → cond t 1 0 + count_by (λ d. eqb d b) s + 1 ≡ length (cond t ([] ∷ cut b s) (push c (cut b s)))
+    go true e = omega (arith, e)
+    go false e = omega (arith, e, pushed b c s)
 
 -- up to the first b there is a part
 pub first_part : {b : ℕ} {s : List ℕ} {i : ℕ} → First b s i → i < length s → cut b s ≡ take i s ∷ cut b (drop (suc i) s)
@@ -84,13 +96,3 @@ module _ {b : ℕ} (s : List ℕ) (at : ℕ) {n : ℕ} (f : First b (drop at s) 
         most = omega arith;
         parts = λ k. rw (first_last f h, drop_of_length-le s {i = length s} (omega arith)) (none_behind b k);
       }
-
-pub letter_one : (s : List ℕ) → length s ≡ 1 → get_or s 0 0 ≡ letter s
-letter_one [] e = absurd (omega arith)
-letter_one (c ∷ []) e = refl
-letter_one (c ∷ d ∷ s) e = absurd (omega arith)
-
-pub letter_other : (s : List ℕ) → (length s ≡ 1 → ⊥) → 0 ≡ letter s
-letter_other [] n = refl
-letter_other (c ∷ []) n = absurd (n refl)
-letter_other (c ∷ d ∷ s) n = refl

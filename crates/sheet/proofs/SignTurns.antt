@@ -1,16 +1,14 @@
 -- A field with a sign: what its first byte says, and the whole number that it spells. From the laws of numerals.
 use mathlib.Core.Path.{◌≡◌, refl, sym, ap, ◌∙◌}
-use mathlib.Core.Logic.{◌≢◌}
 use mathlib.Core.Bool.{Bool, true, false, not, ◌&&◌, cond, and-eq-true_iff}
 use mathlib.Core.List.{List, [], ◌∷◌}
 use mathlib.Core.Option.{none, some}
-use Prim.Native.Nat.{ℕ, zero, suc, ◌-◌, ◌≤◌}
+use Prim.Native.Nat.{ℕ, zero, suc, ◌≤◌}
 use native.Mathlib.Omega.{arith}
 use lib.Dec.{eqb}
 use lib.IntN.{pos}
-use lib.ListN.{length, get_or, take, drop, length-drop}
-use lib.Seq.{take-length}
-use borrow.Author.Tests.{eq-eqb, ne_eqb, eqb-true, eqb-false}
+use lib.ListN.{get_or, drop}
+use borrow.Author.Tests.{eqb-true, eqb-false}
 use Rattle.digits.specs.Integer.{signed_by}
 use Rattle.sheet.specs.Numeral.{worth, followed, number}
 use Rattle.sheet.specs.Numeral.Read.{numeral_number}
@@ -19,53 +17,15 @@ use Rattle.sheet.specs.Spelling.{minus, plain, negative, read_whole}
 use Rattle.sheet.specs.Spelling.Field.{is_numeral, sign_of, unsigned, is_whole, whole_of}
 use Rattle.sheet.proofs.FieldTurns.{Numeral, numeral_value, numeral_parts}
 
--- ── the first byte ──────────────────────────────────────────────────────────────────────────
-
-pub sign_none : (s : List ℕ) → length s ≡ 0 → 0 ≡ sign_of s
-sign_none [] h = refl
-sign_none (c ∷ s) h = absurd (omega arith)
-
-pub sign_minus : (s : List ℕ) → length s ≢ 0 → get_or s 0 0 ≡ minus → 1 ≡ sign_of s
-sign_minus [] h e = absurd (h refl)
-sign_minus (c ∷ s) h e = rw (eq-eqb c minus e)
-
-pub sign_plain : (s : List ℕ) → get_or s 0 0 ≢ minus → 0 ≡ sign_of s
-sign_plain [] n = refl
-sign_plain (c ∷ s) n = rw (ne_eqb c minus n)
-
--- the sign stands in the field
-pub sign_within : (s : List ℕ) → sign_of s ≤ length s
-sign_within [] = omega arith
-sign_within (c ∷ s) = go (eqb c minus)
-  where
-    go : (b : Bool) → cond b 1 0 ≤ length (c ∷ s)
-    go true = omega arith
-    go false = omega arith
-
--- the field behind its sign
-pub unsigned_part : (s : List ℕ) (n : ℕ) → n ≡ sign_of s → take (length s - n) (drop n s) ≡ unsigned s
-unsigned_part s n e =
-    ap (λ (k : ℕ). take k (drop n s)) (sym (length-drop n s)) ∙ take-length (drop n s) ∙ ap (λ (k : ℕ). drop k s) e
-
 -- ── the whole number ────────────────────────────────────────────────────────────────────────
 
 -- the test of a whole number, by that of its figures f and by its sign n
 module _ (base most : ℕ) (s f : List ℕ) (is : f ≡ unsigned s) where
-  pub whole_test : (n : ℕ) → n ≡ sign_of s → is_numeral base most f ≡ true → not (eqb n 1 && eqb (get_or f 0 0) 48) ≡ is_whole base most s
-  whole_test n e m =
-      ap (λ (b : Bool). b && not (eqb n 1 && eqb (get_or f 0 0) 48)) (sym m)
-      ∙ ap (λ (g : List ℕ). is_numeral base most g && not (eqb n 1 && eqb (get_or g 0 0) 48)) is
-      ∙ ap (λ (k : ℕ). is_numeral base most (unsigned s) && not (eqb k 1 && eqb (get_or (unsigned s) 0 0) 48)) e
-
   -- of a whole number the figures are a numeral
   pub whole_parts : is_whole base most s ≡ true → Numeral base most f
   whole_parts w =
       numeral_parts base most f
       (ap (is_numeral base most) is ∙ ((and-eq-true_iff (is_numeral base most (unsigned s)) (not (eqb (sign_of s) 1 && eqb (get_or (unsigned s) 0 0) 48))).0 w).0)
-
-  pub whole_not : is_numeral base most f ≡ false → false ≡ is_whole base most s
-  whole_not m =
-      ap (λ (b : Bool). b && not (eqb (sign_of s) 1 && eqb (get_or (unsigned s) 0 0) 48)) (sym m ∙ ap (is_numeral base most) is)
 
 module _ (base most : ℕ) (low : 2 ≤ base) (high : base ≤ 16) where
   -- a numeral is 0 exactly if its first figure is

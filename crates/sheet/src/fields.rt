@@ -1,11 +1,11 @@
-ghost use Rattle.std.specs.Prelude.{◌≡◌, not, ◌&&◌, [], ◌≤◌, ◌<◌, eqb, length, get_or};
+ghost use Rattle.std.specs.Prelude.{◌≡◌, not, ◌&&◌, [], ◌≤◌, ◌<◌, eqb, length, get_or, SomeIff};
 ghost use Rattle.sheet.specs.Spelling.{comma, cut, letter, read_decimal};
 ghost use Rattle.sheet.specs.Spelling.Field.{First, Behind, sign_of, unsigned, is_whole, decimal_of};
 
-use crate::figures::Decimal;
 use digits::Limits;
 
-const COMMA: u8 = b',';
+// The byte between two fields.
+pub const COMMA: u8 = b',';
 
 const MINUS: u8 = b'-';
 
@@ -16,14 +16,7 @@ const DECIMAL_FIGURES: usize = 4;
 pub fn find(s: &[u8], b: u8) -> usize
     ensures { First b s.now result }
 {
-    let mut i = 0;
-    while i < s.len() {
-        if s[i] == b {
-            return i;
-        }
-        i += 1;
-    }
-    i
+    s.iter().position(|byte| *byte == b).unwrap_or(s.len())
 }
 
 // Where the next field begins behind the one at `at`; the end where there is none.
@@ -33,10 +26,7 @@ fn behind(s: &[u8], at: usize) -> usize
 {
     let rest = &s[at..];
     let n = find(rest, COMMA);
-    if n < rest.len() {
-        return at + n + 1;
-    }
-    s.len()
+    if n < rest.len() { at + n + 1 } else { s.len() }
 }
 
 // The field at k, counted from 0; empty past the last.
@@ -44,57 +34,43 @@ pub fn field(s: &[u8], k: usize) -> &[u8]
     ensures { result.now ≡ get_or (cut comma s.now) k [] }
 {
     let mut at = 0;
-    let mut left = k;
-    while 0 < left {
-        let next = behind(s, at);
-        at = next;
-        left -= 1;
+    for _ in 0..k {
+        at = behind(s, at);
     }
     let n = find(&s[at..], COMMA);
-    let end = at + n;
-    &s[at..end]
+    &s[at..at + n]
 }
 
 // How many fields there are.
 pub fn count(s: &[u8]) -> usize
     ensures { result ≡ length (cut comma s.now) }
 {
-    let mut commas = 0;
-    let mut i = 0;
-    while i < s.len() {
-        if s[i] == COMMA {
-            commas += 1;
-        }
-        i += 1;
-    }
-    commas + 1
+    s.iter().filter(|byte| **byte == COMMA).count() + 1
 }
 
-// The byte of a field of one byte; 0 for any other.
-pub fn letter_of(field: &[u8]) -> u8
-    ensures { result ≡ letter field.now }
+// The byte of a field of one byte; none for any other.
+pub fn letter_of(field: &[u8]) -> Option<u8>
+    ensures { SomeIff result (length field.now ≡ 1) (letter field.now) }
 {
     if field.len() == 1 {
-        return field[0];
+        Some(field[0])
+    } else {
+        None
     }
-    0
 }
 
 // The decimal of the field at k.
-pub fn decimal_at(s: &[u8], k: usize) -> Decimal
+pub fn decimal_at(s: &[u8], k: usize) -> Option<u32>
     ensures { result ≡ decimal_of (read_decimal (get_or (cut comma s.now) k [])) }
 {
     crate::figures::decimal_of(field(s, k), DECIMAL_FIGURES)
 }
 
-// The sign of a field: 1 where a minus stands first, else 0.
+// The sign of a field: 1 where a minus stands first, else 0. A number, as the sign of a scalar is in the C calls.
 pub fn sign_of(field: &[u8]) -> u32
     ensures { result ≡ sign_of field.now }
 {
-    if field.len() == 0 {
-        return 0;
-    }
-    if field[0] == MINUS { 1 } else { 0 }
+    (1 <= field.len() && field[0] == MINUS) as u32
 }
 
 // A field without its minus.
@@ -110,10 +86,7 @@ fn is_signed(sign: u32, figures: &[u8]) -> bool
     requires { 1 ≤ length figures.now }
     ensures { result ≡ not (eqb sign 1 && eqb (get_or figures.now 0 0) 48) }
 {
-    if sign == 1 {
-        return figures[0] != b'0';
-    }
-    true
+    sign != 1 || figures[0] != b'0'
 }
 
 // Whether a field is a scalar, with a minus if negative, of no more figures than the limits allow.
@@ -121,10 +94,7 @@ fn is_scalar(limits: Limits, field: &[u8]) -> bool
     ensures { result ≡ is_whole 16 limits.figures field.now }
 {
     let figures = unsigned(field);
-    if crate::figures::is_numeral(figures, 16, limits.figures) {
-        return is_signed(sign_of(field), figures);
-    }
-    false
+    crate::figures::is_numeral(figures, 16, limits.figures) && is_signed(sign_of(field), figures)
 }
 
 // Whether the field at k is a scalar.

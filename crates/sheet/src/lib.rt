@@ -8,7 +8,7 @@ ghost use Rattle.std.specs.Prelude.{◌≡◌};
 ghost use Rattle.sheet.specs.Plan.{slots, working, table_additions, table_doublings, stored, doubled, largest, is_limit, is_within};
 
 // Plan J uses joint columns; plan I interleaves two rows with windows m1 for P and m2 for Q.
-#[derive(Clone, Copy)]
+#[derive(Clone, Copy, PartialEq, Eq)]
 pub enum Plan {
     J,
     I(u32, u32),
@@ -21,6 +21,7 @@ pub struct Largest {
     pub q: u32,
 }
 
+// Associated functions and a constant, and no free ones: by these names callers ask for them.
 impl Plan {
     // The highest limit of slots.
     pub const MOST_SLOTS: u32 = 31;
@@ -33,10 +34,7 @@ impl Plan {
             Plan::J => 2,
             Plan::I(m1, m2) => {
                 let both = m1 as u64 + m2 as u64;
-                if both < 2 {
-                    return 0;
-                }
-                let multiples = ((both - 2) / 2) as u32;
+                let multiples = (both.saturating_sub(2) / 2) as u32;
                 multiples + Plan::working(m1, m2)
             }
         }
@@ -90,30 +88,20 @@ impl Plan {
     fn working(m1: u32, m2: u32) -> u32
         ensures { result ≡ working m1 m2 }
     {
-        let doubles = Plan::I(m1, m2).table_doublings();
-        if doubles < 2 {
-            return doubles;
-        }
-        1
+        Plan::I(m1, m2).table_doublings().min(1)
     }
 
     // How many odd multiples a window has beyond the first.
     fn stored(m: u32) -> u32
         ensures { result ≡ stored m }
     {
-        if m == 0 {
-            return 0;
-        }
-        (m - 1) / 2
+        m.saturating_sub(1) / 2
     }
 
-    // Whether a window has any.
+    // 1 where a window has any, else 0.
     fn doubled(m: u32) -> u32
         ensures { result ≡ doubled m }
     {
-        if m < 3 {
-            return 0;
-        }
-        1
+        (3 <= m) as u32
     }
 }

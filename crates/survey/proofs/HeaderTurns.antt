@@ -28,10 +28,10 @@ module _ (h : Header) (ls : List Line) where
   unfolding misplaced
   begin_placed = refl
 
-  kind_back : kind_of (coded_header h).joint ≡ h.kind
+  kind_back : kind_of (coded_header h).kind ≡ h.kind
   kind_back = go h.kind
     where
-      go : (k : Rattle.sheet.specs.Line.Kind) → kind_of (Rattle.lines.specs.Coded.is_joint k) ≡ k
+      go : (k : Rattle.sheet.specs.Line.Kind) → kind_of (Rattle.lines.specs.Coded.kind_as k) ≡ k
       go Rattle.sheet.specs.Line.joint = refl
       go Rattle.sheet.specs.Line.interleaved = refl
 

@@ -5,7 +5,7 @@ pub mod HeaderTurns
 pub mod PhaseTurns
 pub mod StateTurns
 pub mod Digits
-pub mod Held
 pub mod TotalTurns
 pub mod ScanTurns
 pub mod Judged
+pub mod Laws

@@ -1,4 +1,4 @@
--- What may stand next: by the phase, for a line in its place and out of it, and for E. From the definitions of Questions.
+-- What may stand next: for a line out of its place, and for E. From the definitions of Questions.
 use mathlib.Core.Path.{◌≡◌, refl, sym, ap, ◌∙◌}
 use mathlib.Core.Bool.{true, false}
 use mathlib.Core.Logic.{◌≢◌}
@@ -9,12 +9,10 @@ use native.Mathlib.Numerals.{add-one}
 use native.Mathlib.Omega.{arith}
 use lib.ListN.{drop}
 use Rattle.sheet.specs.declared.Plan.{Plan}
-use Rattle.sheet.specs.Plan.{Point, tables}
+use Rattle.sheet.specs.Plan.{tables}
 use Rattle.sheet.specs.Line.{Line, header, table, load, double, add, end, misspelled}
-use Rattle.sheet.specs.Questions.{table_lines, differs, after_header, after_load, after_end}
+use Rattle.sheet.specs.Questions.{table_lines, after_header, after_load, after_end}
 use Rattle.lines.specs.Coded.{coded}
-use Rattle.lines.specs.declared.point.Point as point_type
-use Rattle.lines.specs.declared.line.Line.TheVariants.{Table, Load, Double, Add, End, Other}
 use Rattle.survey.specs.Survey.State.{found, earlier, is_placed, TablesClosed, placed_in, differs_in}
 use Rattle.survey.specs.declared.table.Tables as tables_of
 use Rattle.survey.specs.declared.phase.Phase.{Phase}
@@ -24,53 +22,7 @@ use Rattle.survey.proofs.Taken.{earlier_none}
 never : {A : Type 0} → false ≡ true → A
 never e = let z : ◌≡◌ {A = ℕ} 0 1 = cc in absurd (omega arith)
 
--- ── by the phase ────────────────────────────────────────────────────────────────────────────
-
-module _ (p : Phase) (n : ℕ) (us : List Point) (ls : List Line) where
-  pub in_tables : p ≡ Tables → after_header n ls ≡ placed_in p n ls
-  in_tables e = rw e
-
-  pub in_steps : p ≡ Steps → after_load n ls ≡ placed_in p n ls
-  in_steps e = rw e
-
-  pub differs_tables : p ≡ Tables → differs n us (table_lines ls) ≡ differs_in p n us ls
-  differs_tables e = rw e
-
-  pub differs_steps : p ≡ Steps → none ≡ differs_in p n us ls
-  differs_steps e = rw e
-
--- ── the lines in their place, and out of it ──────────────────────────────────────────────────
-
-module _ (u : point_type.Point) where
-  pub at_table : (p : Phase) → is_placed p (Table u) ≡ true → p ≡ Tables
-  at_table Tables e = refl
-  at_table Steps e = never e
-  at_table Ended e = never e
-
-  pub at_load : (p : Phase) → is_placed p (Load u) ≡ true → p ≡ Tables
-  at_load Tables e = refl
-  at_load Steps e = never e
-  at_load Ended e = never e
-
-  pub at_add : (p : Phase) → is_placed p (Add u) ≡ true → p ≡ Steps
-  at_add Tables e = never e
-  at_add Steps e = refl
-  at_add Ended e = never e
-
-pub at_double : (p : Phase) → is_placed p Double ≡ true → p ≡ Steps
-at_double Tables e = never e
-at_double Steps e = refl
-at_double Ended e = never e
-
-pub at_end : (p : Phase) → is_placed p End ≡ true → p ≢ Ended
-at_end Tables e = λ f. let z : ◌≡◌ {A = ℕ} 0 1 = cc in absurd (omega arith)
-at_end Steps e = λ f. let z : ◌≡◌ {A = ℕ} 0 1 = cc in absurd (omega arith)
-at_end Ended e = never e
-
-pub at_other : (p : Phase) → is_placed p Other ≡ true → ⊥
-at_other Tables e = never e
-at_other Steps e = never e
-at_other Ended e = never e
+-- ── out of its place ─────────────────────────────────────────────────────────────────────────
 
 pub out_of_place : (p : Phase) (x : Line) (n : ℕ) (ls : List Line) → is_placed p (coded x) ≡ false → placed_in p n (x ∷ ls) ≡ some n
 unfolding after_header after_load

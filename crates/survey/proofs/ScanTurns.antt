@@ -1,5 +1,6 @@
 -- The turns of the pass: what the state says of the lines to come stays the same from line to line.
 use mathlib.Core.Path.{◌≡◌, refl, sym, ap, subst, ◌∙◌}
+use mathlib.Core.Logic.{◌⊎◌, inl, inr}
 use mathlib.Core.List.{List, [], ◌∷◌}
 use mathlib.Core.Option.{none, some}
 use Prim.Native.Nat.{ℕ, ◌+◌, ◌≤◌}
@@ -9,13 +10,15 @@ use Rattle.sheet.specs.declared.Plan.{Plan}
 use Rattle.sheet.specs.Line.{Header, Line, plan, header, table, load, double, add, end, misspelled}
 use Rattle.sheet.specs.Questions.{disallowed_from, excess_from, additions, doublings, misplaced, off_plan, disallowed, excess, after_header, after_load}
 use Rattle.lines.specs.Coded.{coded_header, opening_of}
-use Rattle.survey.specs.Survey.State.{found, earlier, misplaced_from, off_plan_from, disallowed_in, excess_in, Counted, Follows, Behind, placed_in, differs_in}
+use Rattle.survey.specs.Survey.State.{found, earlier, rank, misplaced_from, off_plan_from, disallowed_in, excess_in, Counted, Follows, Behind, placed_in, differs_in}
 use Rattle.survey.specs.Survey.Total.{places_after}
 use Rattle.survey.specs.Survey.Scan.{Reached, Scanned, Answered}
 use Rattle.survey.specs.declared.state.State.{State}
 use Rattle.survey.specs.declared.phase.Phase.{Phase}
 use Rattle.survey.specs.declared.phase.Phase.TheVariants.{Tables, Steps, Ended}
-use Rattle.survey.specs.declared.scan.Scan as scan
+use Rattle.survey.specs.declared.fault.Fault.{Fault}
+use Rattle.std.specs.declared.result.Result.{Result}
+use Rattle.std.specs.declared.result.Result.TheVariants.{Ok, Err}
 use Rattle.lines.specs.declared.header.Header as header_of
 use Rattle.survey.proofs.Taken.{earlier_none}
 
@@ -47,8 +50,8 @@ module _ {plan : Plan} {s : State} {ls : List Line} {r : State} {rest : List Lin
         doublings = f.doublings rest ∙ g.doublings;
       }
 
-pub going_end : (plan : Plan) (s : State) (ls : List Line) (r : State) (out : scan.Scan) → Going plan s ls r [] → Scanned plan r [] out → Scanned plan s ls out
-going_end plan s ls r (scan.TheVariants.Met t) g f =
+pub going_end : (plan : Plan) (s : State) (ls : List Line) (r : State) (out : Result State Fault) → Going plan s ls r [] → Scanned plan r [] out → Scanned plan s ls out
+going_end plan s ls r (Ok t) g f =
     record {
       misplaced = sym g.misplaced ∙ f.misplaced;
       off_plan = sym g.off_plan ∙ f.off_plan;
@@ -57,7 +60,7 @@ going_end plan s ls r (scan.TheVariants.Met t) g f =
       additions = sym g.additions ∙ f.additions;
       doublings = sym g.doublings ∙ f.doublings;
     }
-going_end plan s ls r (scan.TheVariants.Misplaced n) g f = sym g.misplaced ∙ f
+going_end plan s ls r (Err n) g f = (f.0, sym g.misplaced ∙ f.1)
 
 pub places_most : (n : ℕ) (l : Line) → places_after n l ≤ n
 places_most n (header h) = omega arith
@@ -87,11 +90,9 @@ missing_load : (n : ℕ) → after_load n [] ≡ some n
 unfolding after_load
 missing_load n = refl
 
-pub missing_tables : (s : State) → s.phase ≡ Tables → misplaced_from s [] ≡ some s.line
-missing_tables s e = ap (λ (p : Phase). placed_in p s.line []) e ∙ missing_header s.line
-
-pub missing_steps : (s : State) → s.phase ≡ Steps → misplaced_from s [] ≡ some s.line
-missing_steps s e = ap (λ (p : Phase). placed_in p s.line []) e ∙ missing_load s.line
+pub missing : (s : State) → (s.phase ≡ Tables) ⊎ (s.phase ≡ Steps) → misplaced_from s [] ≡ some s.line
+missing s (inl e) = ap (λ (p : Phase). placed_in p s.line []) e ∙ missing_header s.line
+missing s (inr e) = ap (λ (p : Phase). placed_in p s.line []) e ∙ missing_load s.line
 
 no_disallowed : (p : Plan) (t n : ℕ) → disallowed_from p t n [] ≡ none
 unfolding disallowed_from
@@ -109,7 +110,7 @@ reached_end plan s e =
       off_plan =
           ap (λ (p : Phase). earlier (found s.tables.fault) (differs_in p s.line (lib.ListN.drop s.tables.count (Rattle.sheet.specs.Plan.tables plan)) [])) e
           ∙ earlier_none (found s.tables.fault);
-      disallowed = ap (earlier (found s.steps.fault)) (no_disallowed plan s.steps.turn s.line) ∙ earlier_none (found s.steps.fault);
+      disallowed = ap (earlier (found s.steps.fault)) (no_disallowed plan (rank s.steps.turn) s.line) ∙ earlier_none (found s.steps.fault);
       excess = ap (earlier (found s.doubles.fault)) (no_excess s.doubles.left s.line) ∙ earlier_none (found s.doubles.fault);
       additions = omega arith;
       doublings = omega arith;

@@ -67,9 +67,9 @@ module _ (n : ℕ) (ls : List Line) (x : Point) where
 
   -- the counts, with a so far
   module _ (a : ℕ) where
-    pub adds_load : a + 0 + additions ls ≡ a + additions (load x ∷ ls)
+    pub adds_load : a + additions ls ≡ a + additions (load x ∷ ls)
     unfolding additions
-    adds_load = omega arith
+    adds_load = refl
 
     pub adds_d : a + additions ls ≡ a + additions (double ∷ ls)
     unfolding additions

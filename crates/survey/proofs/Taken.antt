@@ -84,11 +84,11 @@ module _ (p : Plan) (x : Point) (o : Option ℕ) (before n t : ℕ) (ls : List s
       chosen (ltb before t) refl (disallowed_from p t (n + 1) ls) (disallowed_from p before n (add x ∷ ls))
       (unfold disallowed_from in rw (e, add-one))
 
--- a D line
+-- a D line: with none left it is the first beyond them
 pub double_last : (o : Option ℕ) (n k : ℕ) (ls : List spec.Line) → k ≡ 0
-    → earlier (earlier o (some n)) (excess_from 0 (n + 1) ls) ≡ earlier o (excess_from k n (double ∷ ls))
+    → earlier (earlier o (some n)) (excess_from k (n + 1) ls) ≡ earlier o (excess_from k n (double ∷ ls))
 unfolding excess_from
-double_last o n k ls e = rw (earlier_some o n (excess_from 0 (n + 1) ls), e)
+double_last o n k ls e = rw e (earlier_some o n (excess_from 0 (n + 1) ls))
 
 pub double_more : (o : Option ℕ) (n k : ℕ) (ls : List spec.Line) → (k ≡ 0 → ⊥)
     → earlier o (excess_from (k - 1) (n + 1) ls) ≡ earlier o (excess_from k n (double ∷ ls))

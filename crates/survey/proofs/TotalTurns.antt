@@ -7,16 +7,19 @@ use native.Mathlib.Omega.{arith}
 use lib.IntN.{ℤ, pos, negsuc, ◌+ℤ◌, ◌*ℤ◌}
 use Rattle.digits.specs.Two.{Two, P, Q, digit}
 use Rattle.sheet.specs.Plan.{Point}
-use Rattle.sheet.specs.Line.{Header, Line, header, table, load, double, add, end, misspelled}
+use Rattle.sheet.specs.Line.{Line, load, add}
 use Rattle.lines.specs.Coded.{signed, whole, coded_point, coded}
 use Rattle.lines.specs.declared.point.Point as point_type
-use Rattle.lines.specs.declared.line.Line.TheVariants.{Table, Load, Double, Add, End, Other}
+use Rattle.lines.specs.declared.line.Line as lines_of
+use Rattle.lines.specs.declared.line.Line.TheVariants.{Load, Add}
 use Rattle.lines.proofs.Was.{was}
 use Rattle.survey.specs.Sum.{most, Holds, Added}
 use Rattle.survey.proofs.Digits.{holds_later}
 use Rattle.survey.specs.Survey.Scan.{Summed}
 use Rattle.survey.specs.declared.state.State.{State}
-use Rattle.survey.specs.declared.scan.Scan as scan
+use Rattle.survey.specs.declared.fault.Fault.{Fault}
+use Rattle.std.specs.declared.result.Result.{Result}
+use Rattle.std.specs.declared.result.Result.TheVariants.{Ok, Err}
 use Rattle.survey.specs.Survey.Total.{places_after, sum_after, total, Adds}
 
 -- the digit of a row, as the code has it
@@ -39,31 +42,9 @@ module _ (r : Two) (n : ℕ) {xs : List ℕ} where
   step_adds {ys} t y e a x l i s =
       λ c m z h. subst (Holds c (suc m) ys) (ap (λ (d : ℤ). z +ℤ pos (2 ^ n) *ℤ d) (whole_digit r t y e) ∙ sym (ap (sum_after r n z) i ∙ s z)) (a c m z h)
 
-  pub load_adds : {ys : List ℕ} (x : Line) (t : point_type.Point) → coded x ≡ Load t → Added n (whole_in r t) xs ys → Adds r n x xs ys
-  load_adds x t e a = let w = was x e in step_adds t w.0 w.2 a x (load w.0) w.1 (λ z. refl)
-
-  pub add_adds : {ys : List ℕ} (x : Line) (t : point_type.Point) → coded x ≡ Add t → Added n (whole_in r t) xs ys → Adds r n x xs ys
-  add_adds x t e a = let w = was x e in step_adds t w.0 w.2 a x (add w.0) w.1 (λ z. refl)
-
-  -- a line that is no step
-  same_adds : (x l : Line) → x ≡ l → ((z : ℤ) → sum_after r n z l ≡ z) → Adds r n x xs xs
-  same_adds x l i e = λ c m z h. subst (Holds c (suc m) xs) (sym (ap (sum_after r n z) i ∙ e z)) (holds_later h (omega arith))
-
-  pub table_adds : (x : Line) (t : point_type.Point) → coded x ≡ Table t → Adds r n x xs xs
-  table_adds x t e = let w = was x e in same_adds x (table w.0) w.1 (λ z. refl)
-
-  pub double_adds : (x : Line) → coded x ≡ Double → Adds r n x xs xs
-  double_adds x e = same_adds x double (was x e) (λ z. refl)
-
-  pub end_adds : (x : Line) → coded x ≡ End → Adds r n x xs xs
-  end_adds x e = same_adds x end (was x e) (λ z. refl)
-
-  pub other_adds : (x : Line) → coded x ≡ Other → Adds r n x xs xs
-  other_adds x e = go (was x e)
-    where
-      go : ((h : Header) × (x ≡ header h)) ⊎ (x ≡ misspelled) → Adds r n x xs xs
-      go (inl (h, i)) = same_adds x (header h) i (λ z. refl)
-      go (inr i) = same_adds x misspelled i (λ z. refl)
+  pub step_line_adds : {ys : List ℕ} (x : Line) (t : point_type.Point) {l : lines_of.Line} → l ≡ coded x → (l ≡ Load t) ⊎ (l ≡ Add t) → Added n (whole_in r t) xs ys → Adds r n x xs ys
+  step_line_adds x t e (inl f) a = let w = was x (sym e ∙ f) in step_adds t w.0 w.2 a x (load w.0) w.1 (λ z. refl)
+  step_line_adds x t e (inr f) a = let w = was x (sym e ∙ f) in step_adds t w.0 w.2 a x (add w.0) w.1 (λ z. refl)
 
 -- ── line by line ────────────────────────────────────────────────────────────────────────────
 
@@ -93,6 +74,6 @@ module _ {c : ℕ} {r : Two} {first : ℕ} {all : List Line} {at n : ℕ} where
   unfolding total
   running_end {xs = xs} g e h = subst (Holds c most xs) (ap (total r n g.z) (sym e) ∙ g.comes) (holds_later g.holds h)
 
-pub summed : {c : ℕ} (r : Two) (s : State) (ls : List Line) (out : scan.Scan) {xs : List ℕ} → Holds c most xs (total r s.places (pos 0) ls) → Summed c r s ls out xs
-summed r s ls (scan.TheVariants.Met t) h = h
-summed r s ls (scan.TheVariants.Misplaced n) h = tt
+pub summed : {c : ℕ} (r : Two) (s : State) (ls : List Line) (out : Result State Fault) {xs : List ℕ} → Holds c most xs (total r s.places (pos 0) ls) → Summed c r s ls out xs
+summed r s ls (Ok t) h = h
+summed r s ls (Err f) h = tt

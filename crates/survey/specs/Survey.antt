@@ -13,8 +13,11 @@ use Rattle.sheet.specs.Answer.{Answer, accepted, refused, ask, heading, judged, 
 use Rattle.survey.specs.Sum.{limbs_of, most, Holds}
 use Rattle.survey.specs.Survey.State.{claimed_by}
 use Rattle.survey.specs.Survey.Total.{total}
-use Rattle.survey.specs.declared.questions.Survey.{Survey}
-use Rattle.survey.specs.declared.questions.Survey.TheVariants.{Missed, Met}
+use Rattle.survey.specs.Question.{number}
+use Rattle.survey.specs.declared.fault.Fault.{Fault}
+use Rattle.survey.specs.declared.questions.Sums.{Sums}
+use Rattle.std.specs.declared.result.Result.{Result}
+use Rattle.std.specs.declared.result.Result.TheVariants.{Ok, Err}
 
 -- limits that the numbers of the pass and of the comparison have room for
 pub record Held (limits : Limits) : Type 0 where
@@ -32,10 +35,15 @@ pub record LastLeft (limits : Limits) (ls : List Line) : Type 0 where
   pub claim : (r : Two) → total r (claimed_by limits (heading ls)) (pos 0) ls ≡ digit (result ls) r
   pub answers : judged limits (heading ls) ls ≡ last ls
 
+-- an answer is this refusal, by one of the questions 5 to 10
+pub record Refuses (a : Answer) (f : Fault) : Type 0 where
+  pub answers : a ≡ refused (number f.question) f.line
+  pub early : number f.question ≤ 10
+
 -- questions 6 to 10
-abbrev pub JudgedBy : Limits → List Line → Survey → Type 0
-JudgedBy limits ls (Missed number line) = (judged limits (heading ls) ls ≡ refused number line) × (number ≤ 10)
-JudgedBy limits ls Met = LastLeft limits ls
+abbrev pub JudgedBy : Limits → List Line → Result (Unit {0}) Fault → Type 0
+JudgedBy limits ls (Ok met) = LastLeft limits ls
+JudgedBy limits ls (Err f) = Refuses (judged limits (heading ls) ls) f
 
 -- of a sheet only question 11 is left
 pub record Clear (limits : Limits) (s : List ℕ) : Type 0 where
@@ -45,15 +53,20 @@ pub record Clear (limits : Limits) (s : List ℕ) : Type 0 where
   pub answers : answer limits s ≡ last (lines limits s)
 
 -- questions 5 to 10
-abbrev pub Surveyed : Limits → List ℕ → Survey → Type 0
-Surveyed limits s (Missed number line) = (answer limits s ≡ refused number line) × (number ≤ 10)
-Surveyed limits s Met = Clear limits s
+abbrev pub Surveyed : Limits → List ℕ → Result (Unit {0}) Fault → Type 0
+Surveyed limits s (Ok met) = Clear limits s
+Surveyed limits s (Err f) = Refuses (answer limits s) f
 
--- where they are met, the limbs hold the result's number for a row
-abbrev pub ResultIn : Limits → Two → List ℕ → Survey → List ℕ → Type 0
-ResultIn limits r s (Missed number line) xs = Unit {0}
-ResultIn limits r s Met xs = Holds (limbs_of limits) most xs (digit (result (lines limits s)) r)
+-- the limbs hold the result's number for a row
+abbrev pub RowIn : Limits → Two → List ℕ → List ℕ → Type 0
+RowIn limits r s xs = Holds (limbs_of limits) most xs (digit (result (lines limits s)) r)
 
--- both: the questions, and the two sums
-abbrev pub ReadBy : Limits → List ℕ → Survey → List ℕ → List ℕ → Type 0
-ReadBy limits s r p q = Surveyed limits s r × (ResultIn limits P s r p × ResultIn limits Q s r q)
+-- where the questions are met
+abbrev pub ResultIn : Limits → Two → List ℕ → Result (Unit {0}) Fault → List ℕ → Type 0
+ResultIn limits r s (Ok met) xs = RowIn limits r s xs
+ResultIn limits r s (Err f) xs = Unit {0}
+
+-- both: the questions, and where they are met the two sums
+abbrev pub ReadBy : {n : ℕ} → Limits → List ℕ → Result (Sums n) Fault → Type 0
+ReadBy limits s (Ok sums) = Clear limits s × (RowIn limits P s sums.p × RowIn limits Q s sums.q)
+ReadBy limits s (Err f) = Refuses (answer limits s) f

@@ -4,6 +4,7 @@
 mod fault;
 mod header;
 mod limbs;
+mod machine;
 mod phase;
 mod questions;
 mod scan;
@@ -12,5 +13,7 @@ mod steps;
 mod table;
 mod totals;
 
-pub use limbs::{card_empty, gateway_empty};
-pub use questions::{GatewayReading, Reading, Survey, gateway_surveyed, surveyed};
+pub use fault::{Fault, Question};
+pub use limbs::empty;
+pub use machine::Surveyor;
+pub use questions::{Sums, surveyed};

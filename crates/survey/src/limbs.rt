@@ -1,36 +1,23 @@
 ghost use Rattle.std.specs.Prelude.{◌*◌, ◌<◌, pos, length};
-ghost use Rattle.digits.specs.Limits.{card, gateway};
 ghost use Rattle.lines.specs.Coded.{whole};
-ghost use Rattle.survey.specs.Sum.{limbs_of, Roomy, Holds, Added};
+ghost use Rattle.survey.specs.Sum.{Roomy, Holds, Added};
 
 use lines::Signed;
 
 // What each limb begins with, so that a digit can be taken off it.
 const START: u64 = 9223372036854775808;
 
-// The limbs of a sum, on the card and at the gateway: one for 16 doublings, and one more.
-pub const CARD_LIMBS: usize = 34;
-
-pub const GATEWAY_LIMBS: usize = 65;
-
 // The places of a limb.
 const PLACES: usize = 16;
 
-// The limbs of 0, on the card.
-pub fn card_empty() -> [u64; CARD_LIMBS]
-    ensures { Holds (limbs_of card) 0 result (pos 0) }
+// The limbs of 0.
+pub fn empty<const LIMBS: usize>() -> [u64; LIMBS]
+    ensures { Holds LIMBS 0 result (pos 0) }
 {
-    [START; CARD_LIMBS]
+    [START; LIMBS]
 }
 
-// The limbs of 0, at the gateway.
-pub fn gateway_empty() -> [u64; GATEWAY_LIMBS]
-    ensures { Holds (limbs_of gateway) 0 result (pos 0) }
-{
-    [START; GATEWAY_LIMBS]
-}
-
-// Adds a digit at a place.
+// Adds a digit at a place. Over a slice: P's limbs and Q's go through it, and one array's length in the contract is no plainer.
 pub fn add(limbs: &mut [u64], place: usize, digit: Signed)
     requires { Roomy limbs.old × (place < 16 * length limbs.old) }
     ensures { Added place (whole digit) limbs.old limbs.new }

@@ -1,10 +1,10 @@
 ghost use Rattle.std.specs.Prelude.{◌≡◌};
-ghost use Rattle.survey.specs.Survey.State.{is_behind_header, is_behind_load, is_placed};
+ghost use Rattle.survey.specs.Survey.State.{is_placed};
 
 use lines::Line;
 
 // What may stand next: T lines or L or E; D and A lines or E; nothing.
-#[derive(Clone, Copy)]
+#[derive(Clone, Copy, PartialEq, Eq)]
 pub enum Phase {
     Tables,
     Steps,
@@ -16,34 +16,8 @@ pub fn is_placed(phase: Phase, line: Line) -> bool
     ensures { result ≡ is_placed phase line }
 {
     match phase {
-        Phase::Tables => is_behind_header(line),
-        Phase::Steps => is_behind_load(line),
+        Phase::Tables => matches!(line, Line::Table(_) | Line::Load(_) | Line::End),
+        Phase::Steps => matches!(line, Line::Double | Line::Add(_) | Line::End),
         Phase::Ended => false,
-    }
-}
-
-fn is_behind_header(line: Line) -> bool
-    ensures { result ≡ is_behind_header line }
-{
-    match line {
-        Line::Table(_) => true,
-        Line::Load(_) => true,
-        Line::Double => false,
-        Line::Add(_) => false,
-        Line::End => true,
-        Line::Other => false,
-    }
-}
-
-fn is_behind_load(line: Line) -> bool
-    ensures { result ≡ is_behind_load line }
-{
-    match line {
-        Line::Table(_) => false,
-        Line::Load(_) => false,
-        Line::Double => true,
-        Line::Add(_) => true,
-        Line::End => true,
-        Line::Other => false,
     }
 }

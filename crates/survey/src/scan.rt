@@ -7,30 +7,22 @@ ghost use Rattle.survey.specs.Sum.{most, Holds};
 ghost use Rattle.survey.specs.Survey.State.{Counted};
 ghost use Rattle.survey.specs.Survey.Scan.{Scanned, Summed};
 
+use crate::fault::{Fault, Question};
 use crate::phase::Phase;
 use crate::state::State;
 use sheet::Plan;
 
-// The state at the end of the lines, or the first line out of place.
-#[derive(Clone, Copy)]
-pub enum Scan {
-    Met(State),
-    Misplaced(u32),
-}
-
 // The state behind the last line: a line may be missing.
-fn finished(state: State) -> Scan
+fn finished(state: State) -> Result<State, Fault>
     ensures { (plan : Plan) → Scanned plan state [] result }
 {
-    let phase = state.phase;
-    match phase {
-        Phase::Tables => Scan::Misplaced(state.line),
-        Phase::Steps => Scan::Misplaced(state.line),
-        Phase::Ended => Scan::Met(state),
+    match state.phase {
+        Phase::Ended => Ok(state),
+        Phase::Tables | Phase::Steps => Err(Question::Spelling.at(state.line as usize)),
     }
 }
 
-// The lines from a place on. Each digit is added to its sum as the line is taken.
+// The lines from a place on: the state at their end, or the first line out of place. Each digit is added to its sum as the line is taken.
 pub fn scan_from(
     sheet: &[u8],
     from: usize,
@@ -38,7 +30,7 @@ pub fn scan_from(
     start: State,
     p: &mut [u64],
     q: &mut [u64],
-) -> Scan
+) -> Result<State, Fault>
     requires start { (length sheet.now ≤ most) × ((from ≤ length sheet.now) × (Counted start × (start.line ≤ from + 1))) }
     requires cleared { (start.places < 16 * length p.old) × (Holds (length p.old) 0 p.old (pos 0) × Holds (length p.old) 0 q.old (pos 0)) }
     ensures scanned { (limits : Limits) → 1 ≤ limits.figures → Scanned plan start (lines limits (drop from sheet.now)) result }
@@ -47,18 +39,15 @@ pub fn scan_from(
 {
     let mut at = from;
     let mut state = start;
+    // No `for`: only the line that was read tells where the next one begins.
     while at < sheet.len() {
         let taken = lines::line_at(sheet, at);
-        let line = taken.line;
-        let phase = state.phase;
-        if crate::phase::is_placed(phase, line) {
-            crate::totals::add_line(p, q, state.places, line);
-            let next = state.after(plan, line);
-            state = next;
-            at = taken.next;
-            continue;
+        if !crate::phase::is_placed(state.phase, taken.line) {
+            return Err(Question::Spelling.at(state.line as usize));
         }
-        return Scan::Misplaced(state.line);
+        crate::totals::add_line(p, q, state.places, taken.line);
+        state = state.after(plan, taken.line);
+        at = taken.next;
     }
     finished(state)
 }

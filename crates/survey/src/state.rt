@@ -1,22 +1,17 @@
-ghost use Rattle.std.specs.Prelude.{◌≡◌, true, ◌≢◌, ◌-◌};
+ghost use Rattle.std.specs.Prelude.{◌≡◌, true, ◌≢◌};
 ghost use Rattle.sheet.specs.declared.Plan.{Plan};
 ghost use Rattle.sheet.specs.Line as meant;
 ghost use Rattle.sheet.specs.Plan as plans;
 ghost use Rattle.lines.specs.Coded.{coded_point, coded};
 ghost use Rattle.survey.specs.Survey.State.{is_placed, TablesClosed, Counted, Begins, Follows};
 
-use crate::fault::Fault;
+use crate::fault::fault_or;
 use crate::phase::Phase;
-use crate::steps::{Doubles, Steps};
+use crate::steps::{Doubles, Steps, Turn};
 use crate::table::Tables;
 use digits::Limits;
 use lines::{Header, Line, Point};
 use sheet::Plan;
-
-// The additions that an L and an A count for.
-const LOAD_ADDITIONS: usize = 0;
-
-const ADD_ADDITIONS: usize = 1;
 
 // What the lines so far say to each question, and how many D lines are to come by the header.
 #[derive(Clone, Copy)]
@@ -37,42 +32,32 @@ fn tables_at_end(phase: Phase, tables: Tables, plan: Plan, line: u32) -> Tables
 {
     match phase {
         Phase::Tables => tables.closed(plan, line),
-        Phase::Steps => tables,
-        Phase::Ended => tables,
+        Phase::Steps | Phase::Ended => tables,
     }
 }
 
-// One less, or 0.
-fn less_one(n: usize) -> usize
-    ensures { result ≡ n - 1 }
-{
-    if n == 0 {
-        return 0;
-    }
-    n - 1
-}
-
+// By value, and handed back by each method, as was asked for (docs/PROOFS.md). That the counts are few stands in the methods' clauses and
+// not in the type: how many lines there can be the loop alone knows.
 impl State {
     // Behind the header.
     pub fn new(limits: Limits, header: Header) -> State
         ensures { Begins limits header result }
     {
         let met = crate::header::is_on_plan(header);
-        let fault = Fault::Nowhere.or(met, 1);
         State {
             line: 2,
             phase: Phase::Tables,
             tables: Tables {
                 count: 0,
-                fault: fault,
+                fault: fault_or(None, met, 1),
             },
             steps: Steps {
-                turn: 0,
-                fault: Fault::Nowhere,
+                turn: Turn::None,
+                fault: None,
             },
             doubles: Doubles {
                 left: limits.doublings,
-                fault: Fault::Nowhere,
+                fault: None,
             },
             additions: 0,
             doublings: 0,
@@ -85,21 +70,13 @@ impl State {
         requires { Counted self × (self.phase ≡ Phase.Tables) }
         ensures { (x : plans.Point) → t ≡ coded_point x → Follows plan self (meant.table x) result }
     {
-        let line = self.line;
-        let tables = self.tables;
-        let next = tables.taken(plan, t, line);
         let counts = crate::table::counts_of(t);
-        let steps = self.steps;
-        let doubles = self.doubles;
         State {
-            line: line + 1,
-            phase: Phase::Tables,
-            tables: next,
-            steps: steps,
-            doubles: doubles,
+            line: self.line + 1,
+            tables: self.tables.taken(plan, t, self.line),
             additions: self.additions + counts.additions,
             doublings: self.doublings + counts.doublings,
-            places: self.places,
+            ..self
         }
     }
 
@@ -108,21 +85,12 @@ impl State {
         requires { Counted self × (self.phase ≡ Phase.Tables) }
         ensures { (x : plans.Point) → t ≡ coded_point x → Follows plan self (meant.load x) result }
     {
-        let line = self.line;
-        let tables = self.tables;
-        let closed = tables.closed(plan, line);
-        let steps = self.steps;
-        let next = steps.taken(plan, t, line);
-        let doubles = self.doubles;
         State {
-            line: line + 1,
+            line: self.line + 1,
             phase: Phase::Steps,
-            tables: closed,
-            steps: next,
-            doubles: doubles,
-            additions: self.additions + LOAD_ADDITIONS,
-            doublings: self.doublings,
-            places: self.places,
+            tables: self.tables.closed(plan, self.line),
+            steps: self.steps.taken(plan, t, self.line),
+            ..self
         }
     }
 
@@ -131,21 +99,13 @@ impl State {
         requires { Counted self × (self.phase ≡ Phase.Steps) }
         ensures { (plan : Plan) → Follows plan self meant.double result }
     {
-        let line = self.line;
-        let tables = self.tables;
-        let steps = self.steps;
-        let lowered = steps.lowered();
-        let doubles = self.doubles;
-        let next = doubles.taken(line);
         State {
-            line: line + 1,
-            phase: Phase::Steps,
-            tables: tables,
-            steps: lowered,
-            doubles: next,
-            additions: self.additions,
+            line: self.line + 1,
+            steps: self.steps.lowered(),
+            doubles: self.doubles.taken(self.line),
             doublings: self.doublings + 1,
-            places: less_one(self.places),
+            places: self.places.saturating_sub(1),
+            ..self
         }
     }
 
@@ -154,20 +114,11 @@ impl State {
         requires { Counted self × (self.phase ≡ Phase.Steps) }
         ensures { (x : plans.Point) → t ≡ coded_point x → Follows plan self (meant.add x) result }
     {
-        let line = self.line;
-        let tables = self.tables;
-        let steps = self.steps;
-        let next = steps.taken(plan, t, line);
-        let doubles = self.doubles;
         State {
-            line: line + 1,
-            phase: Phase::Steps,
-            tables: tables,
-            steps: next,
-            doubles: doubles,
-            additions: self.additions + ADD_ADDITIONS,
-            doublings: self.doublings,
-            places: self.places,
+            line: self.line + 1,
+            steps: self.steps.taken(plan, t, self.line),
+            additions: self.additions + 1,
+            ..self
         }
     }
 
@@ -176,21 +127,11 @@ impl State {
         requires { Counted self × (self.phase ≢ Phase.Ended) }
         ensures { Follows plan self meant.end result }
     {
-        let line = self.line;
-        let phase = self.phase;
-        let tables = self.tables;
-        let last = tables_at_end(phase, tables, plan, line);
-        let steps = self.steps;
-        let doubles = self.doubles;
         State {
-            line: line + 1,
+            line: self.line + 1,
             phase: Phase::Ended,
-            tables: last,
-            steps: steps,
-            doubles: doubles,
-            additions: self.additions,
-            doublings: self.doublings,
-            places: self.places,
+            tables: tables_at_end(self.phase, self.tables, plan, self.line),
+            ..self
         }
     }
 

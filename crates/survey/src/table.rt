@@ -5,7 +5,7 @@ ghost use Rattle.sheet.specs.Questions.{same_number, same_point, is_double};
 ghost use Rattle.lines.specs.Coded.{signed, coded_point};
 ghost use Rattle.survey.specs.Survey.State.{is_next, multiple_at, TableCounts, TableTaken, TablesClosed};
 
-use crate::fault::Fault;
+use crate::fault::fault_or;
 use lines::{Point, Signed};
 use sheet::Plan;
 
@@ -13,7 +13,7 @@ use sheet::Plan;
 #[derive(Clone, Copy)]
 pub struct Tables {
     pub count: usize,
-    pub fault: Fault,
+    pub fault: Option<u32>,
 }
 
 // The additions and doublings that a T line counts for.
@@ -30,40 +30,28 @@ const TABLE_ADDITIONS: usize = 1;
 fn is_plain(number: Signed, n: u32) -> bool
     ensures { (z : ℤ) → number ≡ signed z → result ≡ same_number z (pos n) }
 {
-    if number.negative {
-        return false;
-    }
-    number.size == n
+    !number.negative && number.size == n
 }
 
 // Whether a number is -1.
 fn is_minus_one(number: Signed) -> bool
     ensures { (z : ℤ) → number ≡ signed z → result ≡ same_number z (negsuc 0) }
 {
-    if number.negative {
-        return number.size == 1;
-    }
-    false
+    number.negative && number.size == 1
 }
 
 // Whether a point is aP + bQ, for a and b that are not negative.
 fn is_point(t: Point, a: u32, b: u32) -> bool
     ensures { (x : plans.Point) → t ≡ coded_point x → result ≡ same_point x (plans.point (pos a) (pos b)) }
 {
-    if is_plain(t.p, a) {
-        return is_plain(t.q, b);
-    }
-    false
+    is_plain(t.p, a) && is_plain(t.q, b)
 }
 
 // Whether a T line doubles: T,2,0 or T,0,2.
 fn is_double(t: Point) -> bool
     ensures { (x : plans.Point) → t ≡ coded_point x → result ≡ is_double x }
 {
-    if is_point(t, 2, 0) {
-        return true;
-    }
-    is_point(t, 0, 2)
+    is_point(t, 2, 0) || is_point(t, 0, 2)
 }
 
 // What a T line counts for.
@@ -71,14 +59,15 @@ pub fn counts_of(t: Point) -> Counts
     ensures { (result.additions + result.doublings ≤ 1) × ((x : plans.Point) → t ≡ coded_point x → TableCounts x result) }
 {
     if is_double(t) {
-        return Counts {
+        Counts {
             additions: 0,
             doublings: 1,
-        };
-    }
-    Counts {
-        additions: TABLE_ADDITIONS,
-        doublings: 0,
+        }
+    } else {
+        Counts {
+            additions: TABLE_ADDITIONS,
+            doublings: 0,
+        }
     }
 }
 
@@ -86,37 +75,27 @@ pub fn counts_of(t: Point) -> Counts
 fn multiples_of(m: u32) -> usize
     ensures { (result ≡ length (multiples (stored m))) × (result ≤ 4294967296) }
 {
-    if m < 3 {
-        return 0;
-    }
-    (m - 1) as usize / 2 + 1
+    if m < 3 { 0 } else { (m - 1) as usize / 2 + 1 }
 }
 
-// The multiple on the T line of a window with n before it: 2, then 3, 5 and so on.
+// The multiple on the T line of a window with n before it: 2, then 3, 5 and so on. The bound on n, a count of lines, holds by the
+// loop's bound on the lines.
 fn multiple(n: usize) -> u32
     requires { n < 2147483647 }
     ensures { result ≡ multiple_at n }
 {
-    if n == 0 {
-        return 2;
-    }
-    (2 * n + 1) as u32
+    if n == 0 { 2 } else { (2 * n + 1) as u32 }
 }
 
 // Whether t is the T line of plan J with n before it.
 fn is_joint_table(n: usize, t: Point) -> bool
     ensures { (x : plans.Point) → t ≡ coded_point x → result ≡ is_next (drop n (tables Plan.J)) x }
 {
-    if n == 0 {
-        return is_point(t, 1, 1);
+    match n {
+        0 => is_point(t, 1, 1),
+        1 => is_plain(t.p, 1) && is_minus_one(t.q),
+        _ => false,
     }
-    if n == 1 {
-        if is_plain(t.p, 1) {
-            return is_minus_one(t.q);
-        }
-        return false;
-    }
-    false
 }
 
 // Whether t is the T line of plan I with n before it.
@@ -129,10 +108,7 @@ fn is_window_table(m1: u32, m2: u32, n: usize, t: Point) -> bool
         return is_point(t, multiple(n), 0);
     }
     let left = n - first;
-    if left < multiples_of(m2) {
-        return is_point(t, 0, multiple(left));
-    }
-    false
+    left < multiples_of(m2) && is_point(t, 0, multiple(left))
 }
 
 // Whether t is the plan's T line with n before it.
@@ -162,13 +138,10 @@ impl Tables {
         requires { self.count < 2147483647 }
         ensures { TableTaken plan self t line result }
     {
-        let count = self.count;
-        let fault = self.fault;
-        let met = is_table(plan, count, t);
-        let next = fault.or(met, line);
+        let met = is_table(plan, self.count, t);
         Tables {
-            count: count + 1,
-            fault: next,
+            count: self.count + 1,
+            fault: fault_or(self.fault, met, line),
         }
     }
 
@@ -176,13 +149,10 @@ impl Tables {
     pub fn closed(self, plan: Plan, line: u32) -> Tables
         ensures { TablesClosed plan self line result }
     {
-        let count = self.count;
-        let fault = self.fault;
-        let met = table_lines(plan) <= count;
-        let next = fault.or(met, line);
+        let met = table_lines(plan) <= self.count;
         Tables {
-            count: count,
-            fault: next,
+            fault: fault_or(self.fault, met, line),
+            ..self
         }
     }
 }

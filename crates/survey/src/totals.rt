@@ -24,15 +24,7 @@ pub fn add_line(p: &mut [u64], q: &mut [u64], places: usize, line: Line)
     ensures second { (x : meant.Line) → line ≡ coded x → Adds Q places x q.old q.new }
 {
     match line {
-        Line::Table(_) => {}
-        Line::Load(t) => {
-            add_point(p, q, places, t);
-        }
-        Line::Double => {}
-        Line::Add(t) => {
-            add_point(p, q, places, t);
-        }
-        Line::End => {}
-        Line::Other => {}
+        Line::Load(t) | Line::Add(t) => add_point(p, q, places, t),
+        Line::Table(_) | Line::Double | Line::End | Line::Other => {}
     }
 }

@@ -2,11 +2,11 @@
 use mathlib.Core.Path.{◌≡◌, ◌∙◌}
 use mathlib.Core.Bool.{Bool}
 use mathlib.Core.List.{List, [], ◌∷◌}
-use Prim.Native.Nat.{ℕ, ◌+◌, ◌/◌, ◌%◌, ◌≤◌, ◌<◌}
+use Prim.Native.Nat.{ℕ, ◌+◌, ◌/◌, ◌%◌, ◌<◌}
 use lib.Dec.{leb}
 use lib.IntN.{nat_abs}
 use Rattle.digits.specs.Byte.{signed}
-use Rattle.forms.specs.Test.{within, equal, same_list, every_below}
+use Rattle.forms.specs.Test.{equal, same_list, every_below}
 use Rattle.sheet.specs.Numeral.{numeral_in, numeral}
 use Rattle.sheet.specs.Spelling.{digit}
 use Rattle.writer.specs.Body.Parts.{Room}
@@ -23,9 +23,6 @@ bytes b size = kept_of (parts b size (size % 100)) (48 + size % 100 % 10)
 spelled : (b : ℕ) → b < 256 → digit (signed b) ≡ bytes b (nat_abs (signed b))
 unfolding numeral_in numeral
 spelled = (every_below 256 (λ b. same_list equal (digit (signed b)) (bytes b (nat_abs (signed b))))).tells tt
-
-pub size_small : (b : ℕ) → b < 256 → nat_abs (signed b) ≤ 128
-size_small = (every_below 256 (λ b. within (nat_abs (signed b)) 128)).tells tt
 
 pub digit_drafted : {out : List ℕ} {at size rest : ℕ} (b : ℕ) → b < 256 → size ≡ nat_abs (signed b) → rest ≡ size % 100 → Room out at (digit (signed b)) → Drafting out out at at (digit (signed b)) (parts b size rest) (48 + rest % 10)
 digit_drafted {size = size} {rest = rest} b h e f r = drafted (parts b size rest) (48 + rest % 10) (spelled b h ∙ rw (f, e)) r

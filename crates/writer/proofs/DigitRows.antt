@@ -1,5 +1,7 @@
 -- After calls that fill two buffers the columns in use are those that were written, and the calls tell how many there are; with columns that make the
 -- scalars the writer has all that it needs. For any two rows of a plan I; and from their contracts for 01's row and joint calls, where questions 1 and 2 are met.
+use Rattle.std.specs.Prelude.{Ok, Err}
+use Rattle.digits.specs.declared.missed.Missed.{Missed}
 use mathlib.Core.Path.{◌≡◌, refl, sym, ap, ap₂, subst, ◌∙◌}
 use mathlib.Core.Bool.{true, ◌&&◌}
 use mathlib.Core.List.{List, ◌∷◌, ◌++◌, map}
@@ -23,9 +25,8 @@ use Rattle.digits.specs.Two.{Column, P, Q, two, paired}
 use Rattle.digits.specs.Two.Paired.{paired_length}
 use Rattle.forms.specs.Joint.{joint}
 use Rattle.forms.proofs.Laws.Joint.Value.{joint_small}
-use Rattle.recode.specs.Call.{roomy, places_written, weight_written, wrote_row, wrote_columns, filled, left, answer_with, buffer_with, joint_answer, joint_buffer}
+use Rattle.recode.specs.Call.{Recoded, roomy, places_written, weight_written, wrote_row, wrote_columns, filled, left, answer_with, buffer_with, joint_answer, joint_buffer}
 use Rattle.recode.specs.Call.Lent.{filled_long}
-use Rattle.recode.specs.declared.answer.Recoded.{Recoded}
 use Rattle.sheet.specs.declared.Plan.{Plan}
 use Rattle.sheet.specs.declared.Plan.TheVariants.{J, I}
 use Rattle.sheet.specs.Digits.{weight}
@@ -35,8 +36,7 @@ use Rattle.written.specs.Makes.{Makes}
 use Rattle.written.specs.Valid.{Valid}
 use Rattle.written.specs.Written.{digits, sheet_of}
 use Rattle.written.specs.Written.Columns.{paired_weight}
-use Rattle.writer.specs.declared.rows.Rows.{Rows}
-use Rattle.writer.specs.Rows.{row_by}
+use Rattle.writer.specs.Rows.{Rows, row_by}
 use Rattle.writer.proofs.Laws.Rows.Made.{rows_kept}
 use Rattle.writer.specs.declared.answer.Sheet.{Sheet}
 use Rattle.writer.specs.Body.Parts.{Bounded, Ready}
@@ -85,10 +85,10 @@ module _ {plan : Plan} (k l : ℤ) {p q : List ℕ} {cs : List Column} {places c
       }
 
   -- what the writer returns and leaves is the sheet of the columns
-  pub standing_written : {a : Sheet} {after : List ℕ} (before : List ℕ) → (a ≡ Writing.wrote_columns plan (columns_below places p q) k l) × (after ≡ sheet_of plan (columns_below places p q) k l ++ drop (length (sheet_of plan (columns_below places p q) k l)) before)
-      → (a ≡ Writing.wrote_columns plan cs k l) × (after ≡ sheet_of plan cs k l ++ drop (length (sheet_of plan cs k l)) before)
+  pub standing_written : {a : Sheet} {after : List ℕ} (before : List ℕ) → (a ≡ Writing.columns_size plan (columns_below places p q) k l) × (after ≡ sheet_of plan (columns_below places p q) k l ++ drop (length (sheet_of plan (columns_below places p q) k l)) before)
+      → (a ≡ Writing.columns_size plan cs k l) × (after ≡ sheet_of plan cs k l ++ drop (length (sheet_of plan cs k l)) before)
   standing_written {a} {after} before =
-      subst (λ (ds : List Column). (a ≡ Writing.wrote_columns plan ds k l) × (after ≡ sheet_of plan ds k l ++ drop (length (sheet_of plan ds k l)) before)) standing.columns
+      subst (λ (ds : List Column). (a ≡ Writing.columns_size plan ds k l) × (after ≡ sheet_of plan ds k l ++ drop (length (sheet_of plan ds k l)) before)) standing.columns
 
 -- ── two filled buffers ──────────────────────────────────────────────────────────────────────
 
@@ -151,6 +151,14 @@ module _ (s : List ℕ) (m : ℕ) (ds : List ℤ) (size : sized gateway s ≡ tr
   unfolding buffer_with
   row_filled b room = ap (λ (a : Recoded). left a ds b) (row_answer room)
 
+-- a call that misses a question has written no row
+not_row : {A : Type 0} {e : Missed} (ds : List ℤ) → Err e ≡ wrote_row ds → A
+not_row ds p = let z : ◌≡◌ {A = ℕ} 0 1 = ap ok p in absurd (omega (arith, z))
+  where
+    ok : Recoded → ℕ
+    ok (Ok w) = 1
+    ok (Err e) = 0
+
 module _ (rows : Rows) (k : List ℕ) (k_sign : ℕ) (l : List ℕ) (l_sign : ℕ) (p q : List ℕ) (m1 m2 : ℕ) (sizes : (sized gateway k && sized gateway l) ≡ true) (windows : (is_window m1 && is_window m2) ≡ true) (rooms : Rooms k l (length p) (length q)) where
   -- the two rows
   abbrev xs : List ℤ
@@ -158,6 +166,19 @@ module _ (rows : Rows) (k : List ℕ) (k_sign : ℕ) (l : List ℕ) (l_sign : �
 
   abbrev ys : List ℤ
   ys = row_by rows m2 (signed_scalar l l_sign)
+
+  -- neither call misses a question
+  pub first_met : {A : Type 0} {e : Missed} → Err e ≡ answer_with gateway k m1 xs (length p) → A
+  first_met e =
+      let u = both (sized gateway k) (sized gateway l) sizes in
+      let w = both (is_window m1) (is_window m2) windows in
+      not_row xs (e ∙ row_answer k m1 xs u.0 w.0 (omega (arith, rooms.0)))
+
+  pub second_met : {A : Type 0} {e : Missed} → Err e ≡ answer_with gateway l m2 ys (length q) → A
+  second_met e =
+      let u = both (sized gateway k) (sized gateway l) sizes in
+      let w = both (is_window m1) (is_window m2) windows in
+      not_row ys (e ∙ row_answer l m2 ys u.1 w.1 (omega (arith, rooms.1)))
 
   -- after two of them the columns of the rows stand in the buffers
   pub row_calls : {r s : Recoded} {p' q' : List ℕ} {places counted : ℕ} → length (paired xs ys) ≤ 8 * max (length k) (length l) + 1

@@ -1,7 +1,6 @@
 -- The figures of a scalar, byte by byte: each byte puts its figures behind those of the bytes before it. From Numerals.
 use mathlib.Core.Path.{◌≡◌, refl, sym, ap, subst, ◌∙◌}
-use mathlib.Core.Logic.{◌≢◌}
-use mathlib.Core.Bool.{Bool, true, false}
+use mathlib.Core.Bool.{Bool}
 use mathlib.Core.List.{List, [], ◌∷◌, ◌++◌, reverse-append, append_assoc, append-nil}
 use Prim.Native.Nat.{ℕ, zero, suc, ◌+◌, ◌*◌, ◌/◌, ◌%◌, ◌≤◌, ◌<◌}
 use native.Mathlib.Numerals.{add-one}
@@ -58,17 +57,6 @@ figures_grow (b ∷ t) s h =
       ap length (byte_behind (scalar s) b (h 0)),
       length-append (figures_of (scalar s)) (byte_figures (eqb (scalar s) 0) b),
     )
-
--- ── the figures of one byte ─────────────────────────────────────────────────────────────────
-
-pub byte_none : (first : Bool) (b : ℕ) → first ≡ true → b ≡ 0 → byte_figures first b ≡ []
-byte_none first b e f = ap (λ (t : Bool). byte_figures t b) e ∙ ap figures_of f
-
-pub byte_first : (first : Bool) (b : ℕ) → first ≡ true → b ≢ 0 → byte_figures first b ≡ numeral 16 b
-byte_first first b e f = ap (λ (t : Bool). byte_figures t b) e ∙ figures_of_lem b (omega arith)
-
-pub byte_later : (first : Bool) (b : ℕ) → first ≡ false → byte_figures first b ≡ figure (b / 16) ∷ figure (b % 16) ∷ []
-byte_later first b e = ap (λ (t : Bool). byte_figures t b) e
 
 -- ── the loop over the bytes ─────────────────────────────────────────────────────────────────
 
@@ -131,10 +119,3 @@ module _ (bytes out₀ : List ℕ) (at : ℕ) where
               (put_append (subst (λ (k : ℕ). Put out₀ out at k []) e (put_same (ap figures_of f) whole)) p)
           go (suc n) f =
               absurd (omega (arith, whole.behind, ap (λ (k : ℕ). length (figures_of k)) f, numeral_some 16 (omega arith) (omega arith) (suc n)))
-
-      pub scan_some : next ≢ at → Put out₀ out at next (numeral 16 (scalar bytes))
-      scan_some ne = go (scalar bytes) refl
-        where
-          go : (n : ℕ) → scalar bytes ≡ n → Put out₀ out at next (numeral 16 (scalar bytes))
-          go zero f = absurd (ne (omega (arith, whole.behind, ap (λ (k : ℕ). length (figures_of k)) f)))
-          go (suc n) f = put_same (ap figures_of f ∙ sym (ap (numeral 16) f)) whole

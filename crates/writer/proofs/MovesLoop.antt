@@ -7,7 +7,7 @@ use Rattle.sheet.specs.declared.Plan.{Plan}
 use Rattle.sheet.specs.Spelling.{line_feed}
 use Rattle.written.specs.Written.{place_steps}
 use Rattle.writer.specs.Body.Parts.{Put, Room, steps_bytes, column_at}
-use Rattle.writer.proofs.Puts.{Progress, begun, advance, finished, progress_same, progress_room, room_first}
+use Rattle.writer.proofs.Puts.{Progress, advance, finished, progress_same, progress_room, room_first}
 use Rattle.writer.proofs.StepBytes.{moves_bytes, moves_none, moves_more}
 
 -- the places from i up have been put, and those below i are left
@@ -15,9 +15,6 @@ abbrev pub Moving : Plan → List ℕ → List ℕ → ℕ → List ℕ → List
 Moving plan p q top out₀ out at next i = (i ≤ top) × Progress out₀ out at next (moves_bytes plan p q top) (moves_bytes plan p q i)
 
 module _ (plan : Plan) (p q : List ℕ) (top : ℕ) (out₀ : List ℕ) (at : ℕ) where
-  pub move_start : Moving plan p q top out₀ out₀ at at top
-  move_start = (omega arith, begun out₀ at (moves_bytes plan p q top))
-
   module _ {out : List ℕ} {next i : ℕ} (s : Moving plan p q top out₀ out at next i) where
     -- at place 0 all is put
     pub move_stop : i ≤ 0 → Put out₀ out at next (moves_bytes plan p q top)

@@ -34,12 +34,18 @@ put_same {a} {b} {i} {j} e p = subst (Put a b i j) e p
 pub put_length : {a b : List ℕ} {i j : ℕ} {xs : List ℕ} → Put a b i j xs → length b ≡ length a
 put_length {a} {i = i} {xs = xs} p = ap length p.buffer ∙ length-sets a i xs
 
--- room for the first of two puts, and then for the second
+-- room for the same bytes, for the first of two puts, for the second one after it, and for the middle one of three
+pub room_same : {a : List ℕ} {i : ℕ} {xs ys : List ℕ} → xs ≡ ys → Room a i xs → Room a i ys
+room_same {a} {i} e r = subst (Room a i) e r
+
 pub room_first : {a : List ℕ} {i : ℕ} {xs : List ℕ} → (ys : List ℕ) → Room a i (xs ++ ys) → Room a i xs
 room_first {xs = xs} ys r = record { fits = omega (arith, r.fits, length-append xs ys) }
 
 pub room_second : {a b : List ℕ} {i j : ℕ} {xs : List ℕ} → Put a b i j xs → (ys : List ℕ) → Room a i (xs ++ ys) → Room b j ys
 room_second {xs = xs} p ys r = record { fits = omega (arith, r.fits, p.behind, put_length p, length-append xs ys) }
+
+pub room_next : {a b : List ℕ} {i j : ℕ} {xs ys : List ℕ} → Put a b i j xs → (zs : List ℕ) → Room a i (xs ++ (ys ++ zs)) → Room b j ys
+room_next p zs r = room_first zs (room_second p _ r)
 
 -- what is put at the front, with the rest as it was
 pub put_front : {a b : List ℕ} {j : ℕ} {xs : List ℕ} → Put a b 0 j xs → length xs ≤ length a → b ≡ xs ++ drop (length xs) a

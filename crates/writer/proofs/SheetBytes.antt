@@ -58,10 +58,10 @@ windows_of : (plan : Plan) → (first plan ≡ (largest plan).p) × (second plan
 windows_of J = (refl, refl)
 windows_of (I m1 m2) = (refl, refl)
 
-pub header_parts : (plan : Plan) (x s a d : ℕ) (k l : ℤ) (w : Largest) → x ∷ [] ≡ kind (kind_of plan) → w ≡ largest plan → s ≡ slots plan
-    → header_bytes (heading plan a d k l) ≡ letters_of (x ∷ []) ++ (decimals_of w.p w.q s a d ++ scalars_of k l)
+pub header_parts : (plan : Plan) {x slot : ℕ} {w : Largest} (a d : ℕ) (k l : ℤ) → x ∷ [] ≡ kind (kind_of plan) → w ≡ largest plan → slot ≡ slots plan
+    → header_bytes (heading plan a d k l) ≡ letters_of (x ∷ []) ++ (decimals_of w.p w.q slot a d ++ scalars_of k l)
 unfolding header_bytes
-header_parts plan x s a d k l w e f g =
+header_parts plan a d k l e f g =
     let u = windows_of plan in
     rw (e, f, g, u.0, u.1)
 

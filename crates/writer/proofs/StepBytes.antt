@@ -3,12 +3,11 @@ use mathlib.Core.Path.{◌≡◌, refl, sym, ap, ◌∙◌}
 use mathlib.Core.Logic.{◌≢◌}
 use mathlib.Core.Bool.{Bool, true, false, not, ◌&&◌, cond}
 use mathlib.Core.List.{List, [], ◌∷◌, ◌++◌, append_assoc, append-nil}
-use Prim.Native.Nat.{ℕ, zero, suc, ◌+◌, ◌-◌, ◌≤◌}
+use Prim.Native.Nat.{ℕ, zero, suc, ◌+◌, ◌-◌, ◌≤◌, ◌<◌}
 use native.Mathlib.Omega.{arith}
-use lib.Dec.{T, ltb, eqb}
+use lib.Dec.{T, ltb}
 use lib.IntN.{pos, negsuc}
 use lib.ListN.{length, length-append}
-use borrow.Author.Tests.{ne_eqb}
 use Rattle.digits.specs.Column.{counted}
 use Rattle.digits.specs.Two.{Column, is_zero, blank}
 use Rattle.sheet.specs.declared.Plan.{Plan}
@@ -35,19 +34,6 @@ zero_not b h = go (ltb b 128)
     go true = zero_plain b h
     go false = refl
 
-pub zero_is : (b : ℕ) → b ≡ 0 → is_zero (signed b) ≡ true
-zero_is b e = ap (λ (n : ℕ). is_zero (signed n)) e
-
-pub blank_first : (p q : ℕ) → p ≡ 0 → eqb q 0 ≡ blank (point (signed p) (signed q))
-blank_first p q e = go q ∙ sym (ap (λ (t : Bool). t && is_zero (signed q)) (zero_is p e))
-  where
-    go : (n : ℕ) → eqb n 0 ≡ is_zero (signed n)
-    go zero = refl
-    go (suc n) = ne_eqb (suc n) 0 (omega arith) ∙ sym (zero_not (suc n) (omega arith))
-
-pub blank_not : (p q : ℕ) → p ≢ 0 → false ≡ blank (point (signed p) (signed q))
-blank_not p q h = sym (ap (λ (t : Bool). t && is_zero (signed q)) (zero_not p h))
-
 -- ── the steps of a place ────────────────────────────────────────────────────────────────────
 
 pub one_step : (letter : ℕ) (t : Point) → blank t ≡ false → steps_bytes letter (unless_zero t) ≡ point_line letter t
@@ -69,20 +55,10 @@ and_true false = refl
 blank_p : (b : ℕ) (t : Bool) → is_zero (signed b) ≡ t → blank (point (signed b) (pos 0)) ≡ t
 blank_p b t e = and_true (is_zero (signed b)) ∙ e
 
-pub rows_rest : (letter p q : ℕ) → p ≡ 0 → rows_bytes letter p q ≡ steps_bytes letter (unless_zero (point (pos 0) (signed q)))
-rows_rest letter p q e =
-    ap (λ (b : Bool). steps_bytes letter (cond b [] (point (signed p) (pos 0) ∷ []) ++ unless_zero (point (pos 0) (signed q)))) (blank_p p true (zero_is p e))
-
 pub rows_first : (letter p q : ℕ) → p ≢ 0 → rows_bytes letter p q ≡ point_line letter (point (signed p) (pos 0)) ++ steps_bytes 65 (unless_zero (point (pos 0) (signed q)))
 unfolding steps_bytes
 rows_first letter p q h =
     ap (λ (b : Bool). steps_bytes letter (cond b [] (point (signed p) (pos 0) ∷ []) ++ unless_zero (point (pos 0) (signed q)))) (blank_p p false (zero_not p h))
-
-pub q_none : (letter q : ℕ) → q ≡ 0 → steps_bytes letter (unless_zero (point (pos 0) (signed q))) ≡ []
-q_none letter q e = no_step letter (point (pos 0) (signed q)) (zero_is q e)
-
-pub q_some : (letter q : ℕ) → q ≢ 0 → steps_bytes letter (unless_zero (point (pos 0) (signed q))) ≡ point_line letter (point (pos 0) (signed q))
-q_some letter q h = one_step letter (point (pos 0) (signed q)) (zero_not q h)
 
 -- ── lines as they are spelled ───────────────────────────────────────────────────────────────
 
@@ -160,12 +136,18 @@ loaded_bytes ts t us ms e =
     ∙ sym (append_assoc (point_line 76 t) (steps_bytes 65 us) (spell (move_lines ms)))
     ∙ sym (ap (λ (l : List Point). steps_bytes 76 l ++ spell (move_lines ms)) e)
 
-pub all_steps : (plan : Plan) (p q : List ℕ) (top : ℕ) → T (not (blank (column_at p q top)))
+top_steps : (plan : Plan) (p q : List ℕ) (top : ℕ) → T (not (blank (column_at p q top)))
     → spell (step_lines (steps_down plan (columns_down p q (suc top)))) ≡ steps_bytes 76 (place_steps plan (column_at p q top)) ++ moves_bytes plan p q top
 unfolding columns_down
-all_steps plan p q top h =
+top_steps plan p q top h =
     let (t, ts, e) = a_first (place_steps plan (column_at p q top)) (some_steps plan (column_at p q top) h) in
     loaded_bytes (place_steps plan (column_at p q top)) t ts (moves_of plan (columns_down p q top)) e
+
+pub all_steps : (plan : Plan) (p q : List ℕ) (places : ℕ) → 0 < places → ((top : ℕ) → places ≡ suc top → T (not (blank (column_at p q top))))
+    → spell (step_lines (steps_down plan (columns_down p q places))) ≡ steps_bytes 76 (place_steps plan (column_at p q (places - 1))) ++ moves_bytes plan p q (places - 1)
+all_steps plan p q places h full =
+    let e : places ≡ suc (places - 1) = omega arith in
+    ap (λ (n : ℕ). spell (step_lines (steps_down plan (columns_down p q n)))) e ∙ top_steps plan p q (places - 1) (full (places - 1) e)
 
 -- without a place there is no step
 pub no_places : (plan : Plan) (p q : List ℕ) (places : ℕ) → places ≡ 0 → spell (step_lines (steps_down plan (columns_down p q places))) ≡ []

@@ -4,8 +4,11 @@ use Rattle.std.specs.Prelude.{List, ℕ, ℤ}
 use Rattle.digits.specs.Two.{Column, paired}
 use Rattle.forms.specs.Row.{row}
 use Rattle.down.specs.Down.{down}
-use Rattle.writer.specs.declared.rows.Rows.{Rows}
-use Rattle.writer.specs.declared.rows.Rows.TheVariants.{Up, Down}
+
+-- 01's rows, from the bottom up, and those from the top down
+pub data Rows : Type 0 where
+  Up : Rows
+  Down : Rows
 
 -- the row of c for the window m
 abbrev pub row_by : Rows → ℕ → ℤ → List ℤ

@@ -1,36 +1,37 @@
-ghost use Rattle.std.specs.Prelude.{◌<◌};
-ghost use Rattle.digits.specs.Scalar;
-ghost use Rattle.digits.specs.Scalar.{signed_scalar};
+ghost use Rattle.std.specs.Prelude.{◌<◌, cond, ◌∷◌, []};
+ghost use Rattle.digits.specs.Integer.{is_negative};
+ghost use Rattle.digits.specs.Scalar.{scalar, signed_scalar};
 ghost use Rattle.sheet.specs.Numeral.{numeral};
 ghost use Rattle.sheet.specs.Spelling;
+ghost use Rattle.sheet.specs.Spelling.{minus};
 ghost use Rattle.writer.specs.Body.Parts.{Put, Room, byte_figures};
 
-// The figures of a byte: without leading zeros where it is the first that has any.
-fn put_figures(out: &mut [u8], at: usize, first: bool, byte: u32) -> usize
-    requires { (byte < 256) × Room out.old at (byte_figures first byte) }
+use digits::Scalar;
+
+// The figures of a byte: without leading zeros where it is the first that has any. A flag in place of two functions: one loop puts all bytes.
+fn put_figures(out: &mut [u8], at: usize, first: bool, byte: u8) -> usize
+    requires { Room out.old at (byte_figures first byte) }
     ensures { Put out.old out.new at result (byte_figures first byte) }
 {
-    if first {
-        if byte == 0 {
-            return at;
-        }
-        return crate::put::put_numeral(out, at, 16, byte);
+    let byte = byte as u32;
+    if !first {
+        let next = crate::put::put_figure(out, at, byte / 16);
+        return crate::put::put_figure(out, next, byte % 16);
     }
-    let next = crate::put::put_figure(out, at, byte / 16);
-    crate::put::put_figure(out, next, byte % 16)
+    if byte == 0 {
+        return at;
+    }
+    crate::put::put_numeral(out, at, 16, byte)
 }
 
-// The figures of a scalar: lower-case hexadecimal, no leading zero, `0` for zero.
+// The figures of a scalar's bytes: lower-case hexadecimal, no leading zero, `0` for zero.
 fn put_scalar(out: &mut [u8], at: usize, bytes: &[u8]) -> usize
-    requires { Room out.old at (numeral 16 (Scalar.scalar bytes.now)) }
-    ensures { Put out.old out.new at result (numeral 16 (Scalar.scalar bytes.now)) }
+    requires { Room out.old at (numeral 16 (scalar bytes.now)) }
+    ensures { Put out.old out.new at result (numeral 16 (scalar bytes.now)) }
 {
     let mut next = at;
-    let mut i = 0;
-    while i < bytes.len() {
-        let behind = put_figures(out, next, next == at, bytes[i] as u32);
-        next = behind;
-        i += 1;
+    for &byte in bytes {
+        next = put_figures(out, next, next == at, byte);
     }
     if next == at {
         return crate::put::put_byte(out, at, b'0');
@@ -38,14 +39,22 @@ fn put_scalar(out: &mut [u8], at: usize, bytes: &[u8]) -> usize
     next
 }
 
-// A scalar with its sign: a minus before the figures if it is negative.
-pub fn put_signed(out: &mut [u8], at: usize, bytes: &[u8], sign: u32) -> usize
-    requires { Room out.old at (Spelling.scalar (signed_scalar bytes.now sign)) }
-    ensures { Put out.old out.new at result (Spelling.scalar (signed_scalar bytes.now sign)) }
+// The minus of a scalar that is negative.
+fn put_minus(out: &mut [u8], at: usize, k: Scalar<'_>) -> usize
+    requires { Room out.old at (cond (is_negative (signed_scalar k.bytes.now k.sign)) (minus ∷ []) []) }
+    ensures { Put out.old out.new at result (cond (is_negative (signed_scalar k.entry.bytes.now k.entry.sign)) (minus ∷ []) []) }
 {
-    if digits::is_negative(bytes, sign) {
-        let next = crate::put::put_byte(out, at, b'-');
-        return put_scalar(out, next, bytes);
+    if k.is_negative() {
+        return crate::put::put_byte(out, at, b'-');
     }
-    put_scalar(out, at, bytes)
+    at
+}
+
+// A scalar with its sign: a minus before the figures if it is negative.
+pub fn put_signed(out: &mut [u8], at: usize, k: Scalar<'_>) -> usize
+    requires { Room out.old at (Spelling.scalar (signed_scalar k.bytes.now k.sign)) }
+    ensures { Put out.old out.new at result (Spelling.scalar (signed_scalar k.entry.bytes.now k.entry.sign)) }
+{
+    let next = put_minus(out, at, k);
+    put_scalar(out, next, k.bytes)
 }

@@ -5,8 +5,27 @@ ghost use Rattle.sheet.specs.Spelling;
 ghost use Rattle.digits.specs.Byte.{signed};
 ghost use Rattle.writer.specs.Body.Parts.{Put, PutIf, Room, point_line};
 
-// Each of these puts bytes at a place of the buffer, and returns the place behind them.
+// The size of a digit, without its sign. Not by `unsigned_abs`: a plan J then takes 1.04 times as many instructions.
+fn size(digit: u8) -> u32
+    ensures { result ≡ nat_abs (signed digit) }
+{
+    if 128 <= digit {
+        256 - digit as u32
+    } else {
+        digit as u32
+    }
+}
 
+// What n has below its hundreds. Not by `%`: a plan J then takes 1.06 times as many instructions.
+fn below_hundred(n: u32) -> u32
+    requires { n < 200 }
+    ensures { result ≡ n % 100 }
+{
+    if 100 <= n { n - 100 } else { n }
+}
+
+// Each of these puts bytes at a place of the buffer, and returns the place behind them. Not a struct of both: with `&mut self` a plan takes
+// 1.24 to 1.43 times as many instructions, and with `self` by value what the buffer holds afterwards is not proved.
 pub fn put_byte(out: &mut [u8], at: usize, byte: u8) -> usize
     requires { Room out.old at (byte ∷ []) }
     ensures { Put out.old out.new at result (byte ∷ []) }
@@ -40,29 +59,10 @@ fn put_if(out: &mut [u8], at: usize, kept: bool, byte: u8) -> usize
     ensures { PutIf out.old out.new at result kept byte }
 {
     out[at] = byte;
-    if kept { at + 1 } else { at }
+    at + usize::from(kept)
 }
 
-// The size of a digit, without its sign.
-fn size(digit: u8) -> u32
-    ensures { result ≡ nat_abs (signed digit) }
-{
-    if 128 <= digit {
-        256 - digit as u32
-    } else {
-        digit as u32
-    }
-}
-
-// What n has below its hundreds.
-fn below_hundred(n: u32) -> u32
-    requires { n < 200 }
-    ensures { result ≡ n % 100 }
-{
-    if 100 <= n { n - 100 } else { n }
-}
-
-// A digit, which is a byte in two's complement: a decimal, with a minus if negative.
+// A digit, which is a byte in two's complement: a decimal, with a minus if negative. Without branches, for speed.
 pub fn put_digit(out: &mut [u8], at: usize, digit: u8) -> usize
     requires { Room out.old at (Spelling.digit (signed digit)) }
     ensures { Put out.old out.new at result (Spelling.digit (signed digit)) }

@@ -1,4 +1,4 @@
-ghost use Rattle.std.specs.Prelude.{◌≡◌, not, ◌∷◌, [], ◌++◌, suc, ◌<◌, ◌≤◌, T, pos, length};
+ghost use Rattle.std.specs.Prelude.{◌≡◌, not, ◌∷◌, [], ◌++◌, ℕ, suc, ◌≤◌, T, pos, length};
 ghost use Rattle.digits.specs.Two;
 ghost use Rattle.sheet.specs.Plan.{point};
 ghost use Rattle.sheet.specs.Sound.{move_lines, step_lines};
@@ -13,14 +13,11 @@ use sheet::Plan;
 fn blank(p: u8, q: u8) -> bool
     ensures { result ≡ Two.blank (point (signed p) (signed q)) }
 {
-    if p == 0 {
-        return q == 0;
-    }
-    false
+    p == 0 && q == 0
 }
 
-// The step of a place in plan J.
-fn put_joint(out: &mut [u8], at: usize, letter: u8, p: u8, q: u8) -> usize
+// The step of a column, or nothing where both digits are 0.
+fn put_step(out: &mut [u8], at: usize, letter: u8, p: u8, q: u8) -> usize
     requires { Room out.old at (steps_bytes letter (unless_zero (point (signed p) (signed q)))) }
     ensures { Put out.old out.new at result (steps_bytes letter (unless_zero (point (signed p) (signed q)))) }
 {
@@ -30,22 +27,16 @@ fn put_joint(out: &mut [u8], at: usize, letter: u8, p: u8, q: u8) -> usize
     crate::put::put_point(out, at, letter, p, q)
 }
 
-// The steps of a place in plan I: one for P, then one for Q.
+// The steps of a place in plan I: one for P, then one for Q, which is an addition where it is the second.
 fn put_rows(out: &mut [u8], at: usize, letter: u8, p: u8, q: u8) -> usize
     requires { Room out.old at (steps_bytes letter (unless_zero (point (signed p) (pos 0)) ++ unless_zero (point (pos 0) (signed q)))) }
     ensures { Put out.old out.new at result (steps_bytes letter (unless_zero (point (signed p) (pos 0)) ++ unless_zero (point (pos 0) (signed q)))) }
 {
     if p == 0 {
-        if q == 0 {
-            return at;
-        }
-        return crate::put::put_point(out, at, letter, 0, q);
+        return put_step(out, at, letter, 0, q);
     }
     let next = crate::put::put_point(out, at, letter, p, 0);
-    if q == 0 {
-        return next;
-    }
-    crate::put::put_point(out, next, b'A', 0, q)
+    put_step(out, next, b'A', 0, q)
 }
 
 // The steps of a place: the first one with the letter, a further one as an addition.
@@ -54,7 +45,7 @@ fn put_steps(out: &mut [u8], at: usize, plan: Plan, letter: u8, p: u8, q: u8) ->
     ensures { Put out.old out.new at result (steps_bytes letter (place_steps plan (point (signed p) (signed q)))) }
 {
     match plan {
-        Plan::J => put_joint(out, at, letter, p, q),
+        Plan::J => put_step(out, at, letter, p, q),
         Plan::I(_, _) => put_rows(out, at, letter, p, q),
     }
 }
@@ -74,21 +65,24 @@ fn put_moves(out: &mut [u8], at: usize, plan: Plan, p: &[u8], q: &[u8], top: usi
     ensures { Put out.old out.new at result (spell (move_lines (moves_of plan (columns_down p.now q.now top)))) }
 {
     let mut next = at;
-    let mut i = top;
-    while 0 < i {
-        i -= 1;
+    // By an index, the place: a zip of both rows, each cut at the top and turned, says no more.
+    for i in (0..top).rev() {
         let begun = put_letter(out, next, b'D');
-        let behind = put_steps(out, begun, plan, b'A', p[i], q[i]);
-        next = behind;
+        next = put_steps(out, begun, plan, b'A', p[i], q[i]);
     }
     next
 }
 
-// All steps, from the place `top`, whose first step is the load.
-pub fn put_all(out: &mut [u8], at: usize, plan: Plan, p: &[u8], q: &[u8], top: usize) -> usize
-    requires { (((top < length p.now) × (top < length q.now)) × T (not (Two.blank (column_at p.now q.now top)))) × Room out.old at (spell (step_lines (steps_down plan (columns_down p.now q.now (suc top))))) }
-    ensures { Put out.old out.new at result (spell (step_lines (steps_down plan (columns_down p.now q.now (suc top))))) }
+// All steps, of which the first one is the load; nothing where there is no place.
+pub fn put_places(out: &mut [u8], at: usize, plan: Plan, p: &[u8], q: &[u8], places: usize) -> usize
+    requires places { ((places ≤ length p.now) × (places ≤ length q.now)) × ((top : ℕ) → places ≡ suc top → T (not (Two.blank (column_at p.now q.now top)))) }
+    requires room { Room out.old at (spell (step_lines (steps_down plan (columns_down p.now q.now places)))) }
+    ensures { Put out.old out.new at result (spell (step_lines (steps_down plan (columns_down p.now q.now places)))) }
 {
+    if places == 0 {
+        return at;
+    }
+    let top = places - 1;
     let next = put_steps(out, at, plan, b'L', p[top], q[top]);
     put_moves(out, next, plan, p, q, top)
 }

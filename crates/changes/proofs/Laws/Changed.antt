@@ -1,2 +1,3 @@
 -- Laws of Changed.
+pub mod Costs
 pub mod Listed

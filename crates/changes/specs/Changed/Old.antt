@@ -4,13 +4,12 @@ use Rattle.std.proofs.Common.{sym, ap, ◌∙◌, arith}
 use Rattle.sheet.specs.declared.Plan.{Plan}
 use Rattle.sheet.specs.declared.Plan.TheVariants.{J, I}
 use Rattle.sheet.specs.Plan.{odds, slots}
-use Rattle.chooser.specs.Candidate.{key_of}
-use Rattle.chooser.specs.Cheapest.{interleaved, plans, within}
+use Rattle.written.specs.Written.{written_additions}
+use Rattle.chooser.specs.Cheapest.{interleaved, key_with, plans, within}
 use Rattle.chooser.proofs.Laws.Cheapest.Lists.{within_in}
 use Rattle.chooser.specs.Lexicographic.{before, least}
 use Rattle.chooser.specs.Lexicographic.Order.{least_one, least_ordered}
 use Rattle.changes.specs.Changed.{old_key, old_plan}
-use Rattle.changes.specs.Body.{old_cost}
 
 -- no more slots than the limit
 pub old_within : (k l : ℤ) (limit : ℕ) → slots (old_plan k l limit) ≤ limit
@@ -31,7 +30,7 @@ within_few (suc (suc (suc (suc n)))) h = absurd (omega arith)
 
 -- the key of the cost where no doublings are counted
 abbrev pub old_cost_key : ℤ → ℤ → Plan → List ℕ
-old_cost_key k l p = key_of (old_cost k l p)
+old_cost_key k l p = key_with (written_additions p k l) 0 p
 
 -- it orders the plans as the old key does
 pub old_few : (k l : ℤ) (limit : ℕ) → limit ≤ 3 → least (old_cost_key k l) (I 1 1) (within limit few) ≡ old_plan k l limit

@@ -1,7 +1,7 @@
 -- Demand 3, in one place: the cheapest sheet is 01's cheapest, in 02's order of plans, is accepted, keeps the limit, has the additions that
 -- its header counts, and nobody can write an accepted sheet for the same scalars within the limit that has fewer. And a column list that keeps the joint
 -- sparse rules with a non-zero top is the only one for its pair, and the one that the joint call writes. The proofs are in the files that
--- the answers name; the contracts of `cheapest`, `gateway_cheapest`, `joint` and `gateway_joint` carry these promises (`Promised`,
+-- the answers name; the contracts of `cheapest` and `joint`, at either machine, carry these promises (`Promised`,
 -- `JointPromised`).
 use Rattle.std.specs.Prelude.{◌≡◌, List, ℕ, ◌^◌, ◌≤◌, ◌<◌, ℤ, pos, nat_abs, length}
 use Rattle.digits.specs.Buffer.{row_below, columns_below}
@@ -13,8 +13,7 @@ use Rattle.digits.specs.Scalar.{signed_scalar}
 use Rattle.digits.specs.Two.{Column, P, Q, two}
 use Rattle.forms.specs.Joint.{Keeps, Topped}
 use Rattle.forms.proofs.Laws.Promise as Forms
-use Rattle.recode.specs.Call.{filled, row_answer, row_buffer, RowOf, joint_answer, joint_buffer, JointOf}
-use Rattle.recode.specs.declared.answer.Recoded.TheVariants.{Written}
+use Rattle.recode.specs.Call.{wrote, filled, row_answer, row_buffer, RowOf, joint_answer, joint_buffer, JointOf}
 use Rattle.recode.proofs.Laws.Promise as Recoding
 use Rattle.sheet.specs.declared.Plan.{Plan}
 use Rattle.sheet.specs.Answer.{Accepted, heading, sheet_slots, sheet_additions}
@@ -99,19 +98,19 @@ joint_unique = Forms.joint_unique
 
 module _ (limits : Limits) where
   -- the row that the row call writes is 01's row of the scalar, w of its digits are not 0, and none over the same digits has fewer such ones
-  pub row_written : (s : List ℕ) (sign m : ℕ) (buffer : List ℕ) (n w : ℕ) → row_answer limits s sign m (length buffer) ≡ Written n w
+  pub row_written : (s : List ℕ) (sign m : ℕ) (buffer : List ℕ) (n w : ℕ) → row_answer limits s sign m (length buffer) ≡ wrote n w
       → RowOf m (signed_scalar s sign) w (row_below n (row_buffer limits s sign m buffer))
   row_written = Recoding.row_written limits
 
   -- the columns that the joint call writes are such a list for the two scalars, and every such list is equal to them
-  pub joint_written : (s : List ℕ) (s_sign : ℕ) (t : List ℕ) (t_sign : ℕ) (k l : List ℕ) (n w : ℕ) → joint_answer limits s s_sign t t_sign (length k) (length l) ≡ Written n w
+  pub joint_written : (s : List ℕ) (s_sign : ℕ) (t : List ℕ) (t_sign : ℕ) (k l : List ℕ) (n w : ℕ) → joint_answer limits s s_sign t t_sign (length k) (length l) ≡ wrote n w
       → JointOf (signed_scalar s s_sign) (signed_scalar t t_sign) w (columns_below n (joint_buffer limits P s s_sign t t_sign k l) (joint_buffer limits Q s s_sign t t_sign k l))
   joint_written = Recoding.joint_written limits
 
   -- and such a list is the one that the joint call writes, whenever it writes for these values
   pub joint_only : (s : List ℕ) (s_sign : ℕ) (t : List ℕ) (t_sign : ℕ) (k l : List ℕ) (n w : ℕ) (cs : List Column) → Keeps cs → Topped cs
       → value (Columns.row two P cs) ≡ signed_scalar s s_sign → value (Columns.row two Q cs) ≡ signed_scalar t t_sign
-      → joint_answer limits s s_sign t t_sign (length k) (length l) ≡ Written n w
+      → joint_answer limits s s_sign t t_sign (length k) (length l) ≡ wrote n w
       → ((n ≡ length cs) × (w ≡ Columns.weight two cs))
       × ((joint_buffer limits P s s_sign t t_sign k l ≡ filled (Columns.row two P cs) k) × (joint_buffer limits Q s s_sign t t_sign k l ≡ filled (Columns.row two Q cs) l))
   joint_only = Recoding.joint_only limits

@@ -1,14 +1,15 @@
 -- What is promised of the next limit that pays, in one place; the proofs are in the files that the answers name. The contract of `next_limit`
 -- carries it (`NextPromised`).
-use Rattle.std.specs.Prelude.{◌≡◌, ◌↔◌, ℕ, ◌^◌, ◌≤◌, ◌<◌, ℤ, pos, nat_abs}
+use Rattle.std.specs.Prelude.{◌≡◌, ◌↔◌, ℕ, ◌^◌, ◌≤◌, ◌<◌, ℤ, pos, nat_abs, Ok}
 use Rattle.std.proofs.Common.{sym, subst, arith}
 use Rattle.digits.specs.declared.limits.Limits.{Limits}
 use Rattle.digits.specs.Limits.{bits}
 use Rattle.sheet.specs.Answer.{sheet_additions}
 use Rattle.sheet.specs.Plan.{most_slots}
 use Rattle.written.specs.Enough.{Enough}
-use Rattle.chooser.specs.declared.next.NextLimit.{NextLimit}
-use Rattle.chooser.specs.declared.next.NextLimit.TheVariants.{None}
+use Rattle.std.specs.declared.option.Option.{Option}
+use Rattle.std.specs.declared.option.Option.TheVariants.{None}
+use Rattle.chooser.specs.declared.next.Pays.{Pays}
 use Rattle.chooser.specs.Cheapest.{cheapest}
 use Rattle.chooser.proofs.Laws.Cheapest.Sheet.{additions_of}
 use Rattle.chooser.specs.Next.{fewest, Next, none, next_limit, NextPromised}
@@ -21,7 +22,7 @@ module _ (k l : ℤ) (limit : ℕ) where
   next_meets = First.next_meets k l limit
 
   -- and it is the only such answer
-  pub next_only : (r : NextLimit) → Next (fewest k l) limit r → r ≡ next_limit k l limit
+  pub next_only : (r : Option Pays) → Next (fewest k l) limit r → r ≡ next_limit k l limit
   next_only = First.next_only k l limit
 
   -- it is none exactly when no larger limit up to 31 lowers the additions
@@ -51,5 +52,5 @@ module _ (limits : Limits) (enough : Enough limits) (k l : ℤ) (limit : ℕ) (k
 
   -- before a limit that pays no accepted sheet has fewer additions than the cheapest at the limit asked, and at it one has those told; where none
   -- pays, none has fewer at any limit up to 31
-  pub next_promise : NextPromised limits (next_limit k l limit) k l limit
+  pub next_promise : NextPromised limits (Ok (next_limit k l limit)) k l limit
   next_promise = next_kept limits enough k l limit k_fits l_fits (next_meets k l limit)

@@ -1,5 +1,5 @@
 -- Each sample of specs/Samples.antt is true, by two computed tests.
-use Rattle.std.specs.Prelude.{T, pos, get_or}
+use Rattle.std.specs.Prelude.{T, pos, get_or, Ok}
 use mathlib.Core.List.{[], Memᴰ}
 use Rattle.forms.specs.Test.{Test, both, equal, same_list, every_of}
 use Rattle.sheet.specs.Ascii.{ascii}
@@ -27,8 +27,8 @@ samples_hold = (every_of sample samples).tells table
 -- the test of a sample
 abbrev limited : (s : LimitSample) → Test (LimitSays s)
 limited s =
-    both (equal (limit_told (next_limit (pos s.k) (pos s.l) s.limit)) s.next)
-    (equal (additions_told (next_limit (pos s.k) (pos s.l) s.limit)) s.additions)
+    both (equal (limit_told (Ok (next_limit (pos s.k) (pos s.l) s.limit))) s.next)
+    (equal (additions_told (Ok (next_limit (pos s.k) (pos s.l) s.limit))) s.additions)
 
 limit_table : T (every_of limited limits).test
 unfolding computed

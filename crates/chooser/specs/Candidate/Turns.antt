@@ -5,9 +5,8 @@ use Rattle.std.proofs.Common.{ap, ap₂, ◌∙◌}
 use Rattle.std.proofs.Math.Bool.{true, false}
 use Rattle.sheet.specs.declared.Plan.{Plan}
 use Rattle.sheet.specs.Plan.{is_within}
-use Rattle.chooser.specs.declared.choice.Cost.{Cost}
 use Rattle.chooser.specs.declared.choice.Candidate.{Candidate}
-use Rattle.chooser.specs.Candidate.{key_of, either}
+use Rattle.chooser.specs.Candidate.{key_of, either, either_within}
 use Rattle.chooser.specs.Cheapest.{within}
 use Rattle.chooser.specs.Lexicographic.{before, better, least}
 
@@ -16,24 +15,22 @@ module _ (f : Plan → List ℕ) where
   pub record Stands (c : Candidate) : Type 0 where
     pub stands : key_of c.cost ≡ f c.plan
 
-  pub either_better : (best : Candidate) (p : Plan) (c : Cost) → Stands best → key_of c ≡ f p
-      → ((either best p c).plan ≡ better f best.plan p) × Stands (either best p c)
-  either_better best p c s e =
-      let r = go (before (key_of c) (key_of best.cost)) in
-      (r.0 ∙ ap (λ (t : Bool). cond t p best.plan) (ap₂ before e s.stands), r.1)
+  pub either_better : (best c : Candidate) → Stands best → Stands c → ((either best c).plan ≡ better f best.plan c.plan) × Stands (either best c)
+  either_better best c s t =
+      let r = go (before (key_of c.cost) (key_of best.cost)) in
+      (r.0 ∙ ap (λ (b : Bool). cond b c.plan best.plan) (ap₂ before t.stands s.stands), r.1)
     where
-      go : (t : Bool) → ((cond t (record { plan = p; cost = c }) best).plan ≡ cond t p best.plan) × Stands (cond t (record { plan = p; cost = c }) best)
-      go true = (refl, record { stands = e })
+      go : (b : Bool) → ((cond b c best).plan ≡ cond b c.plan best.plan) × Stands (cond b c best)
+      go true = (refl, t)
       go false = (refl, s)
 
   -- a plan that may need more slots than the limit
-  pub next_better : (limit : ℕ) (best : Candidate) (p : Plan) (c : Cost) → Stands best → key_of c ≡ f p
-      → ((cond (is_within p limit) (either best p c) best).plan ≡ cond (is_within p limit) (better f best.plan p) best.plan)
-      × Stands (cond (is_within p limit) (either best p c) best)
-  next_better limit best p c s e = go (is_within p limit)
+  pub next_better : (limit : ℕ) (best c : Candidate) → Stands best → Stands c
+      → ((either_within limit best c).plan ≡ cond (is_within c.plan limit) (better f best.plan c.plan) best.plan) × Stands (either_within limit best c)
+  next_better limit best c s t = go (is_within c.plan limit)
     where
-      go : (t : Bool) → ((cond t (either best p c) best).plan ≡ cond t (better f best.plan p) best.plan) × Stands (cond t (either best p c) best)
-      go true = either_better best p c s e
+      go : (b : Bool) → ((cond b (either best c) best).plan ≡ cond b (better f best.plan c.plan) best.plan) × Stands (cond b (either best c) best)
+      go true = either_better best c s t
       go false = (refl, s)
 
   -- the least of the plans left is that with one plan more looked at

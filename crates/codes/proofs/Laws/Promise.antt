@@ -5,16 +5,14 @@ use Rattle.digits.specs.Buffer.{row_below}
 use Rattle.digits.specs.declared.limits.Limits.{Limits}
 use Rattle.digits.specs.Scalar.{signed_scalar}
 use Rattle.digits.specs.Two.{Two, P, Q, of}
-use Rattle.recode.specs.Call.{joint_answer, joint_buffer}
-use Rattle.recode.specs.declared.answer.Recoded.{Recoded}
-use Rattle.recode.specs.declared.answer.Recoded.TheVariants.{Written}
+use Rattle.recode.specs.Call.{Recoded, wrote, joint_answer, joint_buffer}
 use Rattle.codes.specs.Call.{codes_answer, codes_digits, codes_buffer, CodesOf, CodesPromised}
 use Rattle.codes.proofs.Laws.Call.Standing as Standing
 
 module _ (limits : Limits) (s : List ℕ) (s_sign : ℕ) (t : List ℕ) (t_sign : ℕ) (k l k_codes l_codes : List ℕ) (n w : ℕ)
-    (written : codes_answer limits s s_sign t t_sign (length k) (length l) (length k_codes) (length l_codes) ≡ Written n w) where
+    (written : codes_answer limits s s_sign t t_sign (length k) (length l) (length k_codes) (length l_codes) ≡ wrote n w) where
   -- a joint call with the same digit buffers answers the same, and leaves the same rows
-  pub codes_joint : (joint_answer limits s s_sign t t_sign (length k) (length l) ≡ Written n w)
+  pub codes_joint : (joint_answer limits s s_sign t t_sign (length k) (length l) ≡ wrote n w)
       × ((r : Two) → codes_digits limits r s s_sign t t_sign k l k_codes l_codes ≡ joint_buffer limits r s s_sign t t_sign k l)
   codes_joint = Standing.codes_joint limits s s_sign t t_sign k l k_codes l_codes n w written
 

@@ -1,6 +1,6 @@
 -- What is promised of the dearest scalar of every size, of the call for it, and of the orders of that size. The definitions are those of Dearest,
 -- Bytes and Call; the proofs are in the files that the answers name.
-use Rattle.std.specs.Prelude.{◌≡◌, ◌≢◌, List, ℕ, ◌+◌, ◌*◌, ◌-◌, ◌/◌, ◌^◌, ◌≤◌, ◌<◌, ℤ, pos, nat_abs, length}
+use Rattle.std.specs.Prelude.{◌≡◌, ◌≢◌, List, ℕ, ◌+◌, ◌*◌, ◌-◌, ◌/◌, ◌^◌, ◌≤◌, ◌<◌, ℤ, pos, nat_abs, length, Ok}
 use Rattle.std.proofs.Common.{◌∙◌, arith}
 use Rattle.digits.specs.Limits.{card, bits}
 use Rattle.digits.specs.Row.{weight}
@@ -11,9 +11,7 @@ use Rattle.sheet.specs.declared.Plan.TheVariants.{I}
 use Rattle.written.specs.Written.{digits, additions_of, written_additions}
 use Rattle.writer.specs.Call.{additions, i_answer, i_down_answer}
 use Rattle.writer.proofs.Laws.Promise.{i_down_additions}
-use Rattle.writer.specs.Rows.{columns_by}
-use Rattle.writer.specs.declared.rows.Rows.{Rows}
-use Rattle.writer.specs.declared.rows.Rows.TheVariants.{Up}
+use Rattle.writer.specs.Rows.{Rows, Up, columns_by}
 use Rattle.dearest.specs.Call.{number, dearest_answer, dearest_buffer, Fills}
 use Rattle.dearest.proofs.Laws.Call.Ordered as Ordered
 use Rattle.dearest.proofs.Laws.Call.Returned as Returned
@@ -21,7 +19,6 @@ use Rattle.dearest.specs.Dearest.{most, dearest, Heaviest}
 use Rattle.dearest.proofs.Laws.Dearest.Closed as Closed
 use Rattle.dearest.proofs.Laws.Dearest.Order as Order
 use Rattle.dearest.proofs.Laws.Dearest.Tried as Tried
-use Rattle.dearest.specs.declared.answer.Dearest.TheVariants.{Found}
 
 -- ── the scalar ──────────────────────────────────────────────────────────────────────────────
 
@@ -52,7 +49,7 @@ dearest_closed = Closed.dearest_closed
 
 -- for a size of 1 to 528 and a buffer of 66 bytes it answers the most, and the bytes are that scalar's
 pub dearest_found : (size : ℕ) (buffer : List ℕ) → 1 ≤ size → size ≤ bits card → length buffer ≡ card.bytes
-    → (dearest_answer size (length buffer) ≡ Found (most size)) × ((scalar (dearest_buffer size buffer) ≡ dearest size) × Fills size (most size) (dearest_buffer size buffer))
+    → (dearest_answer size (length buffer) ≡ Ok (most size)) × ((scalar (dearest_buffer size buffer) ≡ dearest size) × Fills size (most size) (dearest_buffer size buffer))
 dearest_found = Returned.answered
 
 -- for any other the buffer is as lent

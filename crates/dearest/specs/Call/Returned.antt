@@ -1,7 +1,6 @@
 -- All clauses of a return of the call.
 use Rattle.std.specs.Prelude.{◌≡◌, List, ℕ, length}
-use Rattle.dearest.specs.Call.{number, dearest_question, dearest_answer, dearest_buffer, Promised}
-use Rattle.dearest.specs.declared.answer.Dearest.{Dearest}
+use Rattle.dearest.specs.Call.{Dearest, number, dearest_question, dearest_answer, dearest_buffer, Promised}
 
 -- all clauses of a return
 abbrev pub Clauses : ℕ → List ℕ → Dearest → List ℕ → Type 0

@@ -6,7 +6,7 @@ use Rattle.digits.specs.declared.limits.Limits.{Limits}
 use Rattle.digits.specs.Row.{value, weight, Over}
 use Rattle.digits.specs.Scalar.{signed_scalar, bit_length}
 use Rattle.forms.specs.Row.{row}
-use Rattle.recode.specs.declared.answer.Recoded.TheVariants.{Written}
+use Rattle.recode.specs.Call.{wrote}
 use Rattle.down.specs.Call.{down_answer, down_buffer, DownOf}
 use Rattle.down.proofs.Laws.Call.Row as Call
 use Rattle.down.specs.Down.{worth, settled, window, places, DownRule, down}
@@ -58,6 +58,6 @@ pub down_negates : (m : ℕ) (c : ℤ) → 1 ≤ m → down m (neg_ℤ c) ≡ ma
 down_negates = Row.down_negates
 
 -- the row that a call writes is this one, of the scalar with its sign
-pub down_written : (limits : Limits) (s : List ℕ) (sign m : ℕ) (buffer : List ℕ) (n w : ℕ) → down_answer limits s sign m (length buffer) ≡ Written n w
+pub down_written : (limits : Limits) (s : List ℕ) (sign m : ℕ) (buffer : List ℕ) (n w : ℕ) → down_answer limits s sign m (length buffer) ≡ wrote n w
     → DownOf m (signed_scalar s sign) w (row_below n (down_buffer limits s sign m buffer))
 down_written = Call.down_written

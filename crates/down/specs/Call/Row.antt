@@ -2,8 +2,8 @@
 use Rattle.std.specs.Prelude.{◌≡◌, List, ℕ, ℤ}
 use Rattle.digits.specs.declared.limits.Limits.{Limits}
 use Rattle.digits.specs.Scalar.{signed_scalar}
+use Rattle.recode.specs.Call.{Recoded}
 use Rattle.recode.specs.Call.Row.{ReturnedBy}
-use Rattle.recode.specs.declared.answer.Recoded.{Recoded}
 use Rattle.down.specs.Down.{down}
 
 -- the contract of a call whose answer is a and that leaves `out`

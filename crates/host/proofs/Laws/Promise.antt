@@ -1,7 +1,7 @@
 -- What the C host can rely on: the parts that sheets.h takes out of the number that a call returns are the number of the question missed,
 -- and the length and the weight, or the additions, of what was written, or the limit that pays and its additions, or the most digits that are
 -- not 0, or the reader's line, whatever was asked. And that the rows of a joint call can always be packed.
-use Rattle.std.specs.Prelude.{◌≡◌, refl, ◌↔◌, List, ℕ, ◌-◌, ◌≤◌, length}
+use Rattle.std.specs.Prelude.{◌≡◌, refl, ◌↔◌, List, ℕ, ◌-◌, ◌≤◌, ◌<◌, ◌^◌, length, Ok, Err, Some, None}
 use Rattle.std.proofs.Math.Path.{ap}
 use Rattle.std.proofs.Common.{ap₂, ◌∙◌, arith}
 use Rattle.digits.specs.Column.{row}
@@ -9,59 +9,53 @@ use Rattle.digits.specs.Scalar.{Bytes, signed_scalar}
 use Rattle.digits.specs.Two.{Two, P, Q, of, two}
 use Rattle.forms.specs.Joint.{joint}
 use Rattle.forms.proofs.Laws.Joint.Value.{joint_small}
+use Rattle.digits.specs.Missed.{number}
 use Rattle.digits.specs.declared.limits.Limits.{Limits}
-use Rattle.dearest.specs.Call.{dearest_answer}
+use Rattle.digits.specs.declared.missed.Missed.{Missed}
+use Rattle.digits.specs.declared.missed.Missed.TheVariants.{BadScalar, BadWindow, NoRoom, BadLimit, BadColumn, BadSize}
+use Rattle.dearest.specs.Call.{Dearest, most_told, dearest_answer}
+use Rattle.packing.specs.Call as Packs
 use Rattle.packing.specs.Call.{pack_answer}
 use Rattle.packing.proofs.Laws.Promise.{rows_pack}
-use Rattle.packing.specs.declared.answer.Packing.{Packing}
-use Rattle.packing.specs.declared.answer.Packing.TheVariants.{NoRoom, BadColumn, Done}
-use Rattle.recode.specs.Call as Recoding
 use Rattle.codes.specs.Call.{codes_answer}
 use Rattle.down.specs.Call.{down_answer}
-use Rattle.recode.specs.Call.{row_answer, joint_answer, joint_buffer, left, filled}
+use Rattle.recode.specs.Call.{Recoded, row_answer, joint_answer, joint_buffer, left, filled, wrote}
 use Rattle.recode.specs.Call.Lent.{filled_long}
-use Rattle.recode.specs.declared.answer.Recoded.{Recoded}
-use Rattle.recode.specs.declared.answer.Recoded.TheVariants.{Written}
-use Rattle.writer.specs.Call as Writing
-use Rattle.writer.specs.Call.{j_answer, i_answer, i_down_answer}
-use Rattle.writer.specs.declared.answer.Sheet.{Sheet}
+use Rattle.writer.specs.Call.{SheetAnswer, j_answer, i_answer, i_down_answer}
 use Rattle.chooser.specs.Call.{cheapest_answer}
-use Rattle.chooser.specs.Next as Choosing
-use Rattle.chooser.specs.Next.{next_answer}
-use Rattle.chooser.specs.declared.next.NextLimit.{NextLimit}
-use Rattle.chooser.specs.declared.next.NextLimit.TheVariants as nexts
+use Rattle.chooser.specs.Next.{NextLimit, next_answer}
 use Rattle.sheet.specs.Answer.{answer}
-use Rattle.reader.specs.Judgement.{judgement}
-use Rattle.host.specs.Told.{numbered, joined, Fits, RecodedFits, SheetFits, told_next, NextFits, sheets_number, sheets_length, sheets_limit, sheets_weight}
+use Rattle.host.specs.Told.{joined, Fits, RecodedFits, SheetFits, told_next, NextFits, sheets_number, sheets_length, sheets_limit, sheets_weight}
 use Rattle.host.specs.Told.Lines.{line_within}
 use Rattle.host.specs.Told.Parts.{Tellable, row_fits, down_fits, joint_fits, codes_fits, j_fits, i_fits, i_down_fits, cheapest_fits, next_fits, Larger, next_larger, dearest_fits}
 use Rattle.host.specs.Promise.{DearestParts, JudgementParts, NextParts, PackingParts, RecodedParts, SheetParts}
 
 -- what is put together comes out again
-module _ (n : ℕ) {length count : ℕ} (h : Fits length count) where
-  above : sheets_number (numbered n (joined length count)) ≡ n
+module _ {length count : ℕ} (h : Fits length count) where
+  above : sheets_number (joined length count) ≡ 0
   above = omega (arith, h.length_fits, h.count_fits)
 
-  below : sheets_length (numbered n (joined length count)) ≡ length
+  below : sheets_length (joined length count) ≡ length
   below = omega (arith, h.length_fits, h.count_fits)
 
-  limit_below : sheets_limit (numbered n (joined length count)) ≡ length
+  limit_below : sheets_limit (joined length count) ≡ length
   limit_below = omega (arith, h.length_fits, h.count_fits)
 
-  between : sheets_weight (numbered n (joined length count)) ≡ count
+  between : sheets_weight (joined length count) ≡ count
   between = omega (arith, h.length_fits, h.count_fits)
 
 recoded_parts : (r : Recoded) → RecodedFits r → RecodedParts r
-recoded_parts r h =
-    record { number_is = above (Recoding.number r) h; length_is = below (Recoding.number r) h; weight_is = between (Recoding.number r) h }
+recoded_parts (Ok w) h = record { number_is = above h; length_is = below h; weight_is = between h }
+recoded_parts (Err e) h = record { number_is = omega arith; length_is = omega arith; weight_is = omega arith }
 
-sheet_parts : (s : Sheet) → SheetFits s → SheetParts s
-sheet_parts s h =
-    record { number_is = above (Writing.number s) h; length_is = below (Writing.number s) h; additions_are = between (Writing.number s) h }
+sheet_parts : (s : SheetAnswer) → SheetFits s → SheetParts s
+sheet_parts (Ok s) h = record { number_is = above h; length_is = below h; additions_are = between h }
+sheet_parts (Err e) h = record { number_is = omega arith; length_is = omega arith; additions_are = omega arith }
 
 told_parts : (n : NextLimit) → NextFits n → NextParts n
-told_parts n h =
-    record { number_is = above (Choosing.next_number n) h; limit_is = limit_below (Choosing.next_number n) h; additions_are = between (Choosing.next_number n) h }
+told_parts (Ok (Some p)) h = record { number_is = above h; limit_is = limit_below h; additions_are = between h }
+told_parts (Ok None) h = record { number_is = refl; limit_is = refl; additions_are = refl }
+told_parts (Err e) h = record { number_is = omega arith; limit_is = omega arith; additions_are = omega arith }
 
 -- under the card's limits, and under the gateway's:
 module _ (limits : Limits) (tellable : Tellable limits) where
@@ -104,42 +98,52 @@ module _ (limits : Limits) (tellable : Tellable limits) where
     next_parts limit = told_parts (next_answer limits k k_sign l l_sign limit) (next_fits limits tellable k k_sign l l_sign k_bytes l_bytes limit)
 
   -- a sheet that is read
-  pub read_parts : (s : List ℕ) → JudgementParts (judgement (answer limits s))
+  pub read_parts : (s : List ℕ) → JudgementParts (answer limits s)
   read_parts s = record { number_is = omega (arith, tellable.sheet, line_within limits s); line_is = omega (arith, tellable.sheet, line_within limits s) }
+
+-- a question has a number
+asked : (e : Missed) → 0 < number e
+asked BadScalar = omega arith
+asked BadWindow = omega arith
+asked NoRoom = omega arith
+asked BadLimit = omega arith
+asked BadColumn = omega arith
+asked BadSize = omega arith
 
 -- the next limit is told as 0 exactly where none pays
 pub next_none : (limits : Limits) (k : List ℕ) (k_sign : ℕ) (l : List ℕ) (l_sign limit : ℕ)
-    → (told_next (next_answer limits k k_sign l l_sign limit) ≡ 0) ↔ (next_answer limits k k_sign l l_sign limit ≡ nexts.None)
+    → (told_next (next_answer limits k k_sign l l_sign limit) ≡ 0) ↔ (next_answer limits k k_sign l l_sign limit ≡ Ok None)
 next_none limits k k_sign l l_sign limit = (zero (next_answer limits k k_sign l l_sign limit) (next_larger limits k k_sign l l_sign limit), λ e. ap told_next e)
   where
-    zero : (n : NextLimit) → Larger n → told_next n ≡ 0 → n ≡ nexts.None
-    zero nexts.BadScalar h e = absurd (omega arith)
-    zero nexts.BadLimit h e = absurd (omega arith)
-    zero (nexts.Pays n a) h e = absurd (omega arith)
-    zero nexts.None h e = refl
+    zero : (n : NextLimit) → Larger n → told_next n ≡ 0 → n ≡ Ok None
+    zero (Ok (Some p)) h e = absurd (omega (arith, h, e))
+    zero (Ok None) h e = refl
+    zero (Err e) h f = absurd (omega (arith, f, asked e))
 
 -- the dearest scalar, whatever the size and the room
 pub dearest_parts : (size room : ℕ) → DearestParts (dearest_answer size room)
-dearest_parts size room =
-    let fits = dearest_fits size room in record { number_is = omega (arith, fits); most_is = omega (arith, fits) }
+dearest_parts size room = told_most (dearest_answer size room) (dearest_fits size room)
+  where
+    told_most : (d : Dearest) → most_told d < 2 ^ 32 → DearestParts d
+    told_most (Ok most) h = record { number_is = omega (arith, h); most_is = omega (arith, h) }
+    told_most (Err e) h = record { number_is = omega arith; most_is = omega arith }
 
 -- columns packed or unpacked
-pub packing_parts : (p : Packing) → PackingParts p
-packing_parts NoRoom = record { number_is = refl; nothing_below = refl }
-packing_parts BadColumn = record { number_is = refl; nothing_below = refl }
-packing_parts Done = record { number_is = refl; nothing_below = refl }
+pub packing_parts : (p : Packs.Answer) → PackingParts p
+packing_parts (Ok done) = record { number_is = refl; nothing_below = refl }
+packing_parts (Err e) = record { number_is = omega arith; nothing_below = omega arith }
 
 -- ── the rows of a joint call can always be packed ───────────────────────────────────────────
 
 module _ (limits : Limits) (k : List ℕ) (k_sign : ℕ) (l : List ℕ) (l_sign : ℕ) (k_digits l_digits : List ℕ) (length_is weight_is : ℕ)
-    (written : joint_answer limits k k_sign l l_sign (length k_digits) (length l_digits) ≡ Written length_is weight_is) where
+    (written : joint_answer limits k k_sign l l_sign (length k_digits) (length l_digits) ≡ wrote length_is weight_is) where
   stands : (r : Two) → joint_buffer limits r k k_sign l l_sign k_digits l_digits ≡ filled (row two r (joint (signed_scalar k k_sign) (signed_scalar l l_sign))) (of k_digits l_digits r)
   unfolding joint_buffer
   stands r = ap (λ (a : Recoded). left a (row two r (joint (signed_scalar k k_sign) (signed_scalar l l_sign))) (of k_digits l_digits r)) written
 
   -- as many columns as both rows and the buffer have places, also beyond those that were written
   pub joint_packs : (n : ℕ) (packed : List ℕ) → n ≤ length k_digits → n ≤ length l_digits → n ≤ length packed
-      → pack_answer n (joint_buffer limits P k k_sign l l_sign k_digits l_digits) (joint_buffer limits Q k k_sign l l_sign k_digits l_digits) (length packed) ≡ Done
+      → pack_answer n (joint_buffer limits P k k_sign l l_sign k_digits l_digits) (joint_buffer limits Q k k_sign l l_sign k_digits l_digits) (length packed) ≡ Ok tt
   joint_packs n packed h g f =
       let cs = joint (signed_scalar k k_sign) (signed_scalar l l_sign) in
       ap₂ (λ (p q : List ℕ). pack_answer n p q (length packed)) (stands P) (stands Q)

@@ -15,7 +15,6 @@ use Rattle.sheet.specs.Line.{Header, plan, Line, header, table, load, double, ad
 use Rattle.sheet.specs.Plan.{Point, point, slots, tables}
 use Rattle.sheet.specs.Questions.{unless, too_long, after_end, after_load, after_header, misplaced, windowed, table_lines, same_point, differs, off_plan, turn, disallowed_from, disallowed, excess_from, excess, additions, doublings, miscounted, result, wrong}
 use Rattle.sheet.specs.Spelling.{line_feed, push, cut, read_lines, lines}
-use Rattle.reader.specs.Judgement.{judgement}
 use Rattle.host.specs.Told.{line}
 
 -- ── a sheet has no more lines than bytes ────────────────────────────────────────────────────
@@ -131,7 +130,7 @@ module _ (m : ℕ) where
   unfolding wrong
   result_within h ls g = unless_within (same_point (result ls) (point h.k h.l)) 1 g
 
-  ask_within : (q : ℕ) (x : Option ℕ) (next : Answer) → Within m x → line (judgement next) ≤ m → line (judgement (ask q x next)) ≤ m
+  ask_within : (q : ℕ) (x : Option ℕ) (next : Answer) → Within m x → line next ≤ m → line (ask q x next) ≤ m
   ask_within q none next h g = g
   ask_within q (some n) next h g = h
 
@@ -156,7 +155,7 @@ plan_within m h x ls g =
 
 module _ (limits : Limits) (h : Header) where
   -- where the header comes first
-  headed : (x : Header) (ls : List Line) → line (judgement (judged limits h (header x ∷ ls))) ≤ length ls + 2
+  headed : (x : Header) (ls : List Line) → line (judged limits h (header x ∷ ls)) ≤ length ls + 2
   unfolding judged misplaced disallowed excess
   headed x ls =
       let m : ℕ = length ls + 2 in
@@ -169,7 +168,7 @@ module _ (limits : Limits) (h : Header) where
       (ask_within m 11 (wrong h all) _ (result_within m h all (omega arith))
       (omega arith))))))
 
-  judged_line : (ls : List Line) → line (judgement (judged limits h ls)) ≤ length ls + 1
+  judged_line : (ls : List Line) → line (judged limits h ls) ≤ length ls + 1
   unfolding judged misplaced
   judged_line (header x ∷ ls) = omega (arith, headed x ls)
   judged_line (table t ∷ ls) = omega arith
@@ -181,12 +180,12 @@ module _ (limits : Limits) (h : Header) where
   judged_line [] = omega arith
 
 -- at most one past the most lines that a sheet can have
-pub line_within : (limits : Limits) (s : List ℕ) → line (judgement (answer limits s)) ≤ limits.sheet + 1
+pub line_within : (limits : Limits) (s : List ℕ) → line (answer limits s) ≤ limits.sheet + 1
 unfolding answer too_long
 line_within limits s = go (leb (length s) limits.sheet) refl
   where
     go : (b : Bool) → b ≡ leb (length s) limits.sheet
-        → line (judgement (ask 5 (unless b 0) (judged limits (heading (lines limits s)) (lines limits s)))) ≤ limits.sheet + 1
+        → line (ask 5 (unless b 0) (judged limits (heading (lines limits s)) (lines limits s))) ≤ limits.sheet + 1
     go true e =
         omega (arith, leb-true (length s) limits.sheet (sym e), lines_few limits s, judged_line limits (heading (lines limits s)) (lines limits s))
     go false e = omega arith

@@ -1,16 +1,11 @@
 -- The running remainder as the code holds it: its low bits in a number, and the bytes above them.
-use Rattle.std.specs.Prelude.{◌≡◌, List, ℕ, ◌+◌, ◌*◌, ◌^◌, ◌≤◌, ◌<◌, drop}
+use Rattle.std.specs.Prelude.{◌≡◌, List, ℕ, ◌+◌, ◌*◌, ◌^◌, ◌<◌, drop}
 use Rattle.digits.specs.Scalar.{little}
 use Rattle.recode.specs.declared.low.Low.{Low}
 
 -- low + 2^bits × the bytes from `at` on
 unfoldable pub remaining : List ℕ → Low → ℕ
 remaining bytes s = s.low + 2 ^ s.bits * little (drop s.at bytes)
-
--- few low bits; a digit taken off may have carried into the next bit
-pub record Held (s : Low) : Type 0 where
-  pub few : s.bits ≤ 47
-  pub low : s.low ≤ 2 ^ s.bits + 31
 
 -- w is the four bytes from `at` on, with zeros past the end, as one number
 abbrev pub Word : List ℕ → ℕ → ℕ → Type 0

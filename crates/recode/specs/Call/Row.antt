@@ -4,8 +4,7 @@ use Rattle.std.proofs.Math.ListN.{length}
 use Rattle.digits.specs.declared.limits.Limits.{Limits}
 use Rattle.digits.specs.Scalar.{signed_scalar}
 use Rattle.forms.specs.Row.{RowRule, row}
-use Rattle.recode.specs.declared.answer.Recoded.{Recoded}
-use Rattle.recode.specs.Call.{number, row_question, answer_with, buffer_with, PromisedBy}
+use Rattle.recode.specs.Call.{Recoded, number, row_question, answer_with, buffer_with, PromisedBy}
 
 -- the contract of a call whose answer is a and that leaves `out`
 abbrev pub ReturnedBy : (List ℤ → Type 0) → ℤ → List ℤ → Limits → List ℕ → ℕ → List ℕ → Recoded → List ℕ → Type 0

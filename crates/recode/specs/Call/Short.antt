@@ -1,7 +1,6 @@
 -- How long and how heavy an answer is.
 use Prim.Native.Nat.{ℕ, ◌≤◌}
-use Rattle.recode.specs.declared.answer.Recoded.{Recoded}
-use Rattle.recode.specs.Call.{places_written, weight_written}
+use Rattle.recode.specs.Call.{Recoded, places_written, weight_written}
 
 -- an answer with at most n places, of which no more count than there are
 pub record Short (n : ℕ) (r : Recoded) : Type 0 where

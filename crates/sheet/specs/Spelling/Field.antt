@@ -5,8 +5,8 @@ use Rattle.digits.specs.Integer.{signed_by}
 use Rattle.sheet.specs.Numeral.{padded, figures, followed}
 use Rattle.sheet.specs.Spelling.{minus, cut}
 use Rattle.sheet.specs.Spelling.Cut.{Lacks}
-use Rattle.sheet.specs.declared.figures.Decimal.{Decimal}
-use Rattle.sheet.specs.declared.figures.Decimal.TheVariants.{Is, None}
+use Rattle.std.specs.declared.option.Option as declared
+use Rattle.std.specs.declared.option.Option.TheVariants.{Some, None}
 
 -- s spells a number in 1 to `most` figures of the base, with no leading zero
 abbrev pub is_numeral : ℕ → ℕ → List ℕ → Bool
@@ -29,9 +29,9 @@ abbrev pub whole_of : ℕ → List ℕ → ℤ
 whole_of base s = signed_by (sign_of s) (pos (followed base 0 (unsigned s)))
 
 -- what was read, as the code has it
-abbrev pub decimal_of : Option ℕ → Decimal
+abbrev pub decimal_of : Option ℕ → declared.Option ℕ
 decimal_of none = None
-decimal_of (some n) = Is n
+decimal_of (some n) = Some n
 
 -- i is the index of the first b in s, or the length where there is none
 pub record First (b : ℕ) (s : List ℕ) (i : ℕ) : Type 0 where

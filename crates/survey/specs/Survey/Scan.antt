@@ -1,6 +1,6 @@
 -- What the pass over the lines finds: the first line out of place, or what each of the questions 7 to 10 is answered.
 use Rattle.std.specs.Prelude.{◌≡◌, List, ◌∷◌, ℕ, ◌+◌, pos}
-use Rattle.std.proofs.Math.Option.{none, some}
+use Rattle.std.proofs.Math.Option.{Option, none, some}
 use Rattle.digits.specs.Two.{Two}
 use Rattle.digits.specs.declared.limits.Limits.{Limits}
 use Rattle.sheet.specs.declared.Plan.{Plan}
@@ -12,7 +12,11 @@ use Rattle.survey.specs.Sum.{most, Holds}
 use Rattle.survey.specs.Survey.Total.{total}
 use Rattle.lines.specs.declared.header.Header as header_of
 use Rattle.survey.specs.declared.state.State.{State}
-use Rattle.survey.specs.declared.scan.Scan as scan
+use Rattle.survey.specs.declared.fault.Fault.{Fault}
+use Rattle.survey.specs.declared.fault.Question.{Question}
+use Rattle.survey.specs.declared.fault.Question.TheVariants.{Spelling}
+use Rattle.std.specs.declared.result.Result.{Result}
+use Rattle.std.specs.declared.result.Result.TheVariants.{Ok, Err}
 
 -- by the plan, the state s with the lines ls to come answers what the state r holds
 pub record Reached (plan : Plan) (s : State) (ls : List Line) (r : State) : Type 0 where
@@ -23,14 +27,22 @@ pub record Reached (plan : Plan) (s : State) (ls : List Line) (r : State) : Type
   pub additions : s.additions + additions ls ≡ r.additions
   pub doublings : s.doublings + doublings ls ≡ r.doublings
 
-abbrev pub Scanned : Plan → State → List Line → scan.Scan → Type 0
-Scanned plan s ls (scan.TheVariants.Met r) = Reached plan s ls r
-Scanned plan s ls (scan.TheVariants.Misplaced n) = misplaced_from s ls ≡ some n
+-- a question is missed, at the line where it finds a fault
+abbrev pub Missed : Question → Option ℕ → Fault → Type 0
+Missed q o f = (f.question ≡ q) × (o ≡ some f.line)
+
+abbrev pub Asked : Question → Option ℕ → Result (Unit {0}) Fault → Type 0
+Asked q o (Ok met) = o ≡ none
+Asked q o (Err f) = Missed q o f
+
+abbrev pub Scanned : Plan → State → List Line → Result State Fault → Type 0
+Scanned plan s ls (Ok r) = Reached plan s ls r
+Scanned plan s ls (Err f) = Missed Spelling (misplaced_from s ls) f
 
 -- at the end of the lines, c limbs hold what these come to
-abbrev pub Summed : ℕ → Two → State → List Line → scan.Scan → List ℕ → Type 0
-Summed c r s ls (scan.TheVariants.Met t) xs = Holds c most xs (total r s.places (pos 0) ls)
-Summed c r s ls (scan.TheVariants.Misplaced n) xs = Unit {0}
+abbrev pub Summed : ℕ → Two → State → List Line → Result State Fault → List ℕ → Type 0
+Summed c r s ls (Ok t) xs = Holds c most xs (total r s.places (pos 0) ls)
+Summed c r s ls (Err f) xs = Unit {0}
 
 -- the lines have a header, and to the questions 7 to 10 they answer what the state r holds
 pub record Answered (limits : Limits) (ls : List Line) (head : header_of.Header) (r : State) : Type 0 where

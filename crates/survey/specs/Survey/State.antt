@@ -9,8 +9,7 @@ use Rattle.sheet.specs.Line.{plan_of, header, table, load, double, add}
 use Rattle.sheet.specs.Questions.{windowed, same_point, table_lines, differs, disallowed_from, excess_from, additions, doublings, after_header, after_load, after_end, misplaced, off_plan, disallowed, excess}
 use Rattle.lines.specs.Coded.{kind_of, coded_point, coded_header}
 use Rattle.survey.specs.Survey.Total.{places_after}
-use Rattle.survey.specs.declared.fault.Fault.{Fault}
-use Rattle.survey.specs.declared.fault.Fault.TheVariants.{Nowhere, At}
+use Rattle.std.specs.declared.option.Option as faults
 use Rattle.lines.specs.declared.point.Point as point_type
 use Rattle.lines.specs.declared.header.Header as header_of
 use Rattle.lines.specs.declared.line.Line.{Line}
@@ -19,14 +18,15 @@ use Rattle.survey.specs.declared.table.Tables as tables_of
 use Rattle.survey.specs.declared.table.Counts as Counts-of
 use Rattle.survey.specs.declared.steps.Steps as steps_of
 use Rattle.survey.specs.declared.steps.Doubles as doubles_of
+use Rattle.survey.specs.declared.steps.Turn as turn_of
 use Rattle.survey.specs.declared.phase.Phase.{Phase}
 use Rattle.survey.specs.declared.phase.Phase as phase
 use Rattle.survey.specs.declared.state.State.{State}
 
--- the line of a fault
-abbrev pub found : Fault → Option ℕ
-found Nowhere = none
-found (At n) = some n
+-- the line at fault, if there is one
+abbrev pub found : faults.Option ℕ → Option ℕ
+found faults.TheVariants.None = none
+found (faults.TheVariants.Some n) = some n
 
 -- the first of two faults
 abbrev pub earlier : Option ℕ → Option ℕ → Option ℕ
@@ -67,6 +67,12 @@ pub record TableCounts (x : Point) (r : Counts-of.Counts) : Type 0 where
 abbrev pub is_odd : ℕ → ℕ → Bool
 is_odd m n = eqb (n % 2) 1 && leb n m
 
+-- the number of a turn
+abbrev pub rank : turn_of.Turn → ℕ
+rank turn_of.TheVariants.None = 0
+rank turn_of.TheVariants.First = 1
+rank turn_of.TheVariants.Last = 2
+
 -- the turn of a step by the sizes of its digits
 abbrev pub joint_turn : ℕ → ℕ → ℕ
 joint_turn p q = cond (leb p 1 && leb q 1 && not (eqb p 0 && eqb q 0)) 2 0
@@ -77,9 +83,9 @@ window_turn m1 m2 p q = cond (is_odd m1 p && eqb q 0) 1 (cond (eqb p 0 && is_odd
 -- one step more, an L or an A
 pub record StepTaken (plan : Plan) (s : steps_of.Steps) (t : point_type.Point) (line : ℕ) (r : steps_of.Steps) : Type 0 where
   pub loaded : (x : Point) → t ≡ coded_point x → (ls : List spec.Line)
-      → earlier (found r.fault) (disallowed_from plan r.turn (line + 1) ls) ≡ earlier (found s.fault) (disallowed_from plan s.turn line (load x ∷ ls))
+      → earlier (found r.fault) (disallowed_from plan (rank r.turn) (line + 1) ls) ≡ earlier (found s.fault) (disallowed_from plan (rank s.turn) line (load x ∷ ls))
   pub added : (x : Point) → t ≡ coded_point x → (ls : List spec.Line)
-      → earlier (found r.fault) (disallowed_from plan r.turn (line + 1) ls) ≡ earlier (found s.fault) (disallowed_from plan s.turn line (add x ∷ ls))
+      → earlier (found r.fault) (disallowed_from plan (rank r.turn) (line + 1) ls) ≡ earlier (found s.fault) (disallowed_from plan (rank s.turn) line (add x ∷ ls))
 
 -- ── 9 ───────────────────────────────────────────────────────────────────────────────────────
 
@@ -92,10 +98,10 @@ pub record DoubleTaken (s : doubles_of.Doubles) (line : ℕ) (r : doubles_of.Dou
 
 -- the plan that a header names, and whether its windows and slots are right
 abbrev pub plan_for : header_of.Header → Plan
-plan_for h = plan_of (kind_of h.joint) h.m1 h.m2
+plan_for h = plan_of (kind_of h.kind) h.m1 h.m2
 
 abbrev pub is_on_plan : header_of.Header → Bool
-is_on_plan h = windowed (kind_of h.joint) h.m1 h.m2 && eqb h.slots (slots (plan_for h))
+is_on_plan h = windowed (kind_of h.kind) h.m1 h.m2 && eqb h.slots (slots (plan_for h))
 
 -- the D lines that a plan and a header's doublings leave: 0 where they are negative or more than `most`
 abbrev pub claimed_of : ℕ → Plan → ℕ → ℕ
@@ -150,7 +156,7 @@ off_plan_from plan s ls =
 
 -- question 8
 abbrev pub disallowed_in : Plan → State → List spec.Line → Option ℕ
-disallowed_in plan s ls = earlier (found s.steps.fault) (disallowed_from plan s.steps.turn s.line ls)
+disallowed_in plan s ls = earlier (found s.steps.fault) (disallowed_from plan (rank s.steps.turn) s.line ls)
 
 -- question 9
 abbrev pub excess_in : State → List spec.Line → Option ℕ

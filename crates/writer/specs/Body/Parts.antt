@@ -16,6 +16,8 @@ use Rattle.written.specs.Enough.{Enough}
 use Rattle.written.specs.Makes.{Makes}
 use Rattle.written.specs.Valid.{Valid}
 use Rattle.written.specs.Written.{sheet_of}
+use Rattle.writer.specs.declared.tables.Base.{Base}
+use Rattle.writer.specs.declared.tables.Base.TheVariants.{P, Q}
 
 -- the bytes were put at a place, and `next` is the place behind them
 pub record Put (before after : List ℕ) (at next : ℕ) (bytes : List ℕ) : Type 0 where
@@ -48,17 +50,17 @@ unfoldable pub columns_down : List ℕ → List ℕ → ℕ → List Column
 columns_down p q zero = []
 columns_down p q (suc i) = column_at p q i ∷ columns_down p q i
 
--- n times Q, or n times P
-abbrev pub alone : Bool → ℕ → Point
-alone true n = point (pos 0) (pos n)
-alone false n = point (pos n) (pos 0)
+-- n times P, or n times Q
+abbrev pub alone : Base → ℕ → Point
+alone P n = point (pos n) (pos 0)
+alone Q n = point (pos 0) (pos n)
 
 -- the T lines of n odd multiples from d on, and of a window
-abbrev pub odd_lines : Bool → ℕ → ℕ → List ℕ
-odd_lines q d n = spell (map table (map (alone q) (odds d n)))
+abbrev pub odd_lines : Base → ℕ → ℕ → List ℕ
+odd_lines base d n = spell (map table (map (alone base) (odds d n)))
 
-unfoldable pub window_bytes : Bool → ℕ → List ℕ
-window_bytes q m = spell (map table (map (alone q) (multiples (stored m))))
+unfoldable pub window_bytes : Base → ℕ → List ℕ
+window_bytes base m = spell (map table (map (alone base) (multiples (stored m))))
 
 -- the figures of a number that is not 0
 abbrev pub figures_of : ℕ → List ℕ

@@ -2,8 +2,7 @@
 use Rattle.std.specs.Prelude.{◌≡◌, List, ℕ, ℤ}
 use Rattle.forms.specs.Row.{RowRule}
 use Rattle.down.specs.Down.{down}
-use Rattle.writer.specs.declared.rows.Rows.{Rows}
-use Rattle.writer.specs.declared.rows.Rows.TheVariants.{Up, Down}
+use Rattle.writer.specs.Rows.{Rows, Up, Down}
 
 -- what makes a row one of a kind
 abbrev pub RuleBy : Rows → ℕ → ℤ → List ℤ → Type 0

@@ -1,10 +1,6 @@
 -- `changed_orders` meets its contract. The loop's invariant: the lines of the first n orders stand at the front (Turns).
-use Prim.Native.Nat.{◌-◌}
 use Rattle.changes.proofs.Turns.{Standing}
 use Rattle.changes.proofs.call.changed_orders.Given as goal
 
 abbrev pub invariant-loop-n : goal.invariant-loop-n
 invariant-loop-n l = Standing l.initial.out l.n l.at l.out
-
-abbrev pub decreases-loop-n : goal.decreases-loop-n
-decreases-loop-n l = 1024 - l.n

@@ -1,10 +1,14 @@
 -- `new_plan` meets its contract: where all questions are met the call answers the plan.
-use mathlib.Core.Path.{sym, ◌∙◌}
+use Rattle.std.proofs.Common.{refl, sym, ap, ◌∙◌}
+use Rattle.std.specs.Result.{result_unwrap_or}
 use Rattle.digits.specs.Limits.{card}
-use Rattle.chooser.specs.Call.Met.{all_met}
+use Rattle.sheet.specs.declared.Plan.TheVariants.{J}
+use Rattle.chooser.specs.Call.{Choice}
+use Rattle.chooser.proofs.Laws.Call.Demand.{chosen}
 use Rattle.changes.proofs.call.new_plan.Goals as goal
 
-pub returns-in-Is : goal.returns-in-Is
-returns-in-Is c =
+pub returns : goal.returns
+returns c =
     let a = c.args in
-    (all_met card a.k.now a.l.now a.limit (sym c.cheapest_plan.ensures.answer ∙ c.in-Is.is)).1.1
+    c.unwrap_or.ensures
+    ∙ ap (λ (r : Choice). result_unwrap_or r J) (c.cheapest_plan.ensures.answer ∙ sym (chosen card a.k.bytes.now a.l.bytes.now a.limit c.requires.0 c.requires.1 refl))

@@ -8,13 +8,13 @@ use Rattle.chooser.proofs.Laws.Cheapest.Least.{plan_within}
 use Rattle.changes.specs.Body.{order_at}
 use Rattle.changes.specs.Changed.Old.{old_within}
 use Rattle.changes.proofs.Lines.{one_figure}
-use Rattle.changes.proofs.Turns.{old_is, new_is, nothing_put, line_put}
+use Rattle.changes.proofs.Turns.{eq_same, old_is, new_is, nothing_put, line_put}
 use Rattle.changes.proofs.call.put_order.Goals as goal
 
-pub returns-then-same : goal.returns-then-same
-returns-then-same c =
+pub returns-then-eq : goal.returns-then-eq
+returns-then-eq c =
     let a = c.args in
-    let old = nothing_put a.n a.at a.out.now (old_is a.n c.old_plan-old.ensures) (new_is a.n c.new_plan-new.ensures) (sym c.same.ensures ∙ c.if-same.true) in record { answer = old.0; line_fits = old.1.0; buffer = old.1.1 }
+    let old = nothing_put a.n a.at a.out.now (old_is a.n c.old_plan-old.ensures) (new_is a.n c.new_plan-new.ensures) (sym (eq_same c.old_plan-old.result c.new_plan-new.result) ∙ sym c.eq.ensures ∙ c.if-eq.true) in record { answer = old.0; line_fits = old.1.0; buffer = old.1.1 }
 
 pub line_of-requires : goal.line_of-requires
 line_of-requires c =
@@ -28,5 +28,5 @@ line_of-requires c =
 pub returns : goal.returns
 returns c =
     let a = c.args in
-    let old = line_put a.n a.at a.out.now (old_is a.n c.old_plan-old.ensures) (new_is a.n c.new_plan-new.ensures) (sym c.same.ensures ∙ c.if-same.false)
+    let old = line_put a.n a.at a.out.now (old_is a.n c.old_plan-old.ensures) (new_is a.n c.new_plan-new.ensures) (sym (eq_same c.old_plan-old.result c.new_plan-new.result) ∙ sym c.eq.ensures ∙ c.if-eq.false)
     c.line_of.result c.put_line.new.out c.line_of.ensures.answer c.line_of.ensures.line_length c.put_line.ensures in record { answer = old.0; line_fits = old.1.0; buffer = old.1.1 }

@@ -1,5 +1,5 @@
 -- Demand 3 of the calls: the plan is the first in the order, and what is written is what demand 3 asks for.
-use Rattle.std.specs.Prelude.{◌≡◌, Bool, ◌&&◌, ℕ, ◌<◌, ◌^◌, ℤ, pos, nat_abs, length, drop}
+use Rattle.std.specs.Prelude.{◌≡◌, Bool, ◌&&◌, ℕ, ◌<◌, ◌^◌, ℤ, pos, nat_abs, length, drop, Result, Ok, Err}
 use Rattle.std.proofs.Math.Path.{refl, subst}
 use Rattle.std.proofs.Common.{sym, ap, ◌∙◌, arith}
 use Rattle.std.proofs.Math.Bool.{true, false, cond}
@@ -7,16 +7,16 @@ use mathlib.Core.List.{List}
 use Rattle.std.proofs.Math.Seq.{take-append_seam}
 use Rattle.digits.specs.declared.limits.Limits.{Limits}
 use Rattle.digits.specs.Limits.{bits}
+use Rattle.digits.specs.declared.missed.Missed.{Missed}
+use Rattle.digits.specs.declared.missed.Missed.TheVariants.{BadScalar, NoRoom, BadLimit}
 use Rattle.digits.specs.Scalar.{Bytes, scalar, signed_scalar, sized}
 use Rattle.digits.proofs.Laws.Scalar.Signed.{signed_bounded}
 use Rattle.writer.specs.declared.answer.Sheet.{Sheet}
-use Rattle.writer.specs.declared.answer.Sheet.TheVariants.{BadScalar, NoRoom, BadLimit}
 use Rattle.sheet.specs.Plan.{is_limit}
 use Rattle.sheet.specs.declared.Plan.{Plan}
 use Rattle.written.specs.Enough.{Enough}
 use Rattle.written.specs.Written.{digits, written_additions, written_doublings}
 use Rattle.writer.specs.Call.{number, roomy, wrote, left}
-use Rattle.chooser.specs.declared.call.Choice.TheVariants as Choices
 use Rattle.chooser.specs.Cheapest.{cheapest_plan, First, cheapest}
 use Rattle.chooser.specs.Call.{choice_number, choice_question, choice_answer, ChoicePromised, cheapest_question, cheapest_answer, cheapest_buffer, Cheapest, Promised}
 use Rattle.chooser.proofs.Laws.Cheapest.Least.{first_plan}
@@ -32,7 +32,7 @@ module _ (limits : Limits) (k l : List ℕ) (limit : ℕ) where
   choice_promised k_sign l_sign = go (sized limits k && sized limits l) (is_limit limit)
     where
       go : (a b : Bool)
-          → ChoicePromised (cond a (cond b (Choices.Is (cheapest_plan (pos (scalar k)) (pos (scalar l)) limit)) Choices.BadLimit) Choices.BadScalar) (signed_scalar k k_sign) (signed_scalar l l_sign) limit
+          → ChoicePromised (cond a (cond b (Ok (cheapest_plan (pos (scalar k)) (pos (scalar l)) limit)) (Err BadLimit)) (Err BadScalar)) (signed_scalar k k_sign) (signed_scalar l l_sign) limit
       go true true =
           subst (First (signed_scalar k k_sign) (signed_scalar l l_sign) limit) (plan_unsigned k k_sign l l_sign limit) (first_plan (signed_scalar k k_sign) (signed_scalar l l_sign) limit)
       go true false = tt
@@ -43,11 +43,17 @@ module _ (limits : Limits) (k l : List ℕ) (limit : ℕ) where
   choice_question_lem = go (sized limits k) (sized limits l) (is_limit limit)
     where
       go : (a b c : Bool)
-          → choice_number (cond (a && b) (cond c (Choices.Is (cheapest_plan (pos (scalar k)) (pos (scalar l)) limit)) Choices.BadLimit) Choices.BadScalar) ≡ cond a (cond b (cond c 0 4) 1) 1
+          → choice_number (cond (a && b) (cond c (Ok (cheapest_plan (pos (scalar k)) (pos (scalar l)) limit)) (Err BadLimit)) (Err BadScalar)) ≡ cond a (cond b (cond c 0 4) 1) 1
       go true true true = refl
       go true true false = refl
       go true false c = refl
       go false b c = refl
+
+  -- where all questions are met
+  pub chosen : (sized limits k && sized limits l) ≡ true → is_limit limit ≡ true → {p : Plan} → p ≡ cheapest_plan (pos (scalar k)) (pos (scalar l)) limit
+      → Ok p ≡ choice_answer limits k l limit
+  unfolding choice_answer
+  chosen e h g = ap (λ (q : Plan). Ok q) g ∙ sym (rw (e, h))
 
 -- ── its sheet ───────────────────────────────────────────────────────────────────────────────
 
@@ -77,8 +83,8 @@ module _ (k : List ℕ) (k_sign : ℕ) (l : List ℕ) (l_sign : ℕ) where
   abbrev y : ℤ
   y = signed_scalar l l_sign
 
-  answer : ℕ → Bool → Bool → Bool → Sheet
-  answer limit a b c = cond a (cond b (cond c (wrote (cheapest_plan x y limit) x y) NoRoom) BadLimit) BadScalar
+  answer : ℕ → Bool → Bool → Bool → Result Sheet Missed
+  answer limit a b c = cond a (cond b (cond c (wrote (cheapest_plan x y limit) x y) (Err NoRoom)) (Err BadLimit)) (Err BadScalar)
 
   -- whatever is asked, the answer and the buffer keep the promise
   pub cheapest_promised : (limits : Limits) → Enough limits → (limit : ℕ) (buffer : List ℕ) → Bytes k → Bytes l

@@ -14,17 +14,18 @@ use Rattle.sheet.specs.declared.Plan.{Plan}
 use Rattle.sheet.specs.Plan.{most_slots}
 use Rattle.written.proofs.Laws.Promise.{written_signs}
 use Rattle.written.specs.Written.{written_additions}
-use Rattle.chooser.specs.declared.next.NextLimit.{NextLimit}
-use Rattle.chooser.specs.declared.next.NextLimit.TheVariants.{Pays, None}
+use Rattle.std.specs.declared.option.Option.{Option}
+use Rattle.std.specs.declared.option.Option.TheVariants.{None}
+use Rattle.chooser.specs.declared.next.Pays.{Pays}
 use Rattle.chooser.specs.Cheapest.{cheapest_plan}
 use Rattle.chooser.proofs.Laws.Cheapest.Least.{plan_within, plan_least}
 use Rattle.chooser.proofs.Laws.Cheapest.Signs.{plan_signs}
-use Rattle.chooser.specs.Next.{fewest, first_below, Next, pays, none, next_limit}
+use Rattle.chooser.specs.Next.{fewest, paying, first_below, Next, pays, none, next_limit}
 
 module _ (f : ℕ → ℕ) where
   -- of the limits from n to the one before end, the first with fewer than a additions, or none
-  data Below (a n end : ℕ) : NextLimit → Type 0 where
-    found : {m : ℕ} → n ≤ m → m < end → f m < a → ((i : ℕ) → n ≤ i → i < m → a ≤ f i) → Below a n end (Pays m (f m))
+  data Below (a n end : ℕ) : Option Pays → Type 0 where
+    found : {m : ℕ} → n ≤ m → m < end → f m < a → ((i : ℕ) → n ≤ i → i < m → a ≤ f i) → Below a n end (paying m (f m))
     missing : ((i : ℕ) → n ≤ i → i < end → a ≤ f i) → Below a n end None
 
   -- from one limit earlier on, which is not below a
@@ -35,7 +36,7 @@ module _ (f : ℕ → ℕ) where
       go true e = q (omega (arith, ltb-true n i e))
       go false e = let same : n ≡ i = omega (arith, ltb-false n i e) in omega (arith, h, ap f same)
 
-  below_later : {a n end : ℕ} {r : NextLimit} → a ≤ f n → Below a (suc n) end r → Below a n end r
+  below_later : {a n end : ℕ} {r : Option Pays} → a ≤ f n → Below a (suc n) end r → Below a n end r
   below_later h (found {m} u v w q) = found {m = m} (omega arith) v w (λ i x y. one_more i h x (λ z. q i z y))
   below_later h (missing q) = missing (λ i x y. one_more i h x (λ z. q i z y))
 
@@ -47,7 +48,7 @@ module _ (f : ℕ → ℕ) where
       go (ltb (f n) a) refl (rw e at (first_below_lem a (suc n) more))
     where
       go : (t : Bool) → ltb (f n) a ≡ t → Below a (suc n) (n + suc more) (first_below f a (suc n) more)
-          → Below a n (n + suc more) (cond t (Pays n (f n)) (first_below f a (suc n) more))
+          → Below a n (n + suc more) (cond t (paying n (f n)) (first_below f a (suc n) more))
       go true e b = found {m = n} (omega arith) (omega arith) (ltb-true (f n) a e) (λ i h g. absurd (omega arith))
       go false e b = below_later (omega (arith, ltb-false (f n) a e)) b
 
@@ -55,20 +56,20 @@ module _ (f : ℕ → ℕ) where
   pub first_next : (limit : ℕ) → Next f limit (first_below f (f limit) (suc limit) (most_slots - limit))
   first_next limit = go (first_below_lem (f limit) (suc limit) (most_slots - limit))
     where
-      go : {r : NextLimit} → Below (f limit) (suc limit) (suc limit + (most_slots - limit)) r → Next f limit r
+      go : {r : Option Pays} → Below (f limit) (suc limit) (suc limit + (most_slots - limit)) r → Next f limit r
       go (found {m} u v w q) = pays {n = m} {a = f m} (omega arith) (omega arith) refl w (λ i x y. q i (omega arith) y)
       go (missing q) = none (λ i x y. q i (omega arith) (omega arith))
 
   -- and there is only one
-  pub next_one : {limit : ℕ} {r s : NextLimit} → Next f limit r → Next f limit s → r ≡ s
+  pub next_one : {limit : ℕ} {r s : Option Pays} → Next f limit r → Next f limit s → r ≡ s
   next_one (pays {n} {a} u v e w q) (pays {n = m} {a = b} u' v' e' w' q') = go (ltb n m) (ltb m n) refl refl
     where
-      go : (s t : Bool) → ltb n m ≡ s → ltb m n ≡ t → Pays n a ≡ Pays m b
+      go : (s t : Bool) → ltb n m ≡ s → ltb m n ≡ t → paying n a ≡ paying m b
       go true t c d = absurd (omega (arith, ltb-true n m c, q' n u (ltb-true n m c)))
       go false true c d = absurd (omega (arith, ltb-true m n d, q m u' (ltb-true m n d)))
       go false false c d =
           let same : n ≡ m = omega (arith, ltb-false n m c, ltb-false m n d) in
-          ap₂ (λ (x y : ℕ). Pays x y) same (sym e ∙ ap f same ∙ e')
+          ap₂ paying same (sym e ∙ ap f same ∙ e')
   next_one (pays {n} u v e w q) (none q') = absurd (omega (arith, q' n u v))
   next_one (none q) (pays {n} u v e w q') = absurd (omega (arith, q n u v))
   next_one (none q) (none q') = refl
@@ -92,7 +93,7 @@ module _ (k l : ℤ) where
   unfolding next_limit
   next_meets limit = first_next (fewest k l) limit
 
-  pub next_only : (limit : ℕ) (r : NextLimit) → Next (fewest k l) limit r → r ≡ next_limit k l limit
+  pub next_only : (limit : ℕ) (r : Option Pays) → Next (fewest k l) limit r → r ≡ next_limit k l limit
   next_only limit r h = next_one (fewest k l) h (next_meets limit)
 
 -- the limit for two signed scalars is that for their bytes

@@ -1,5 +1,5 @@
 -- What the call for the next limit promises of accepted sheets, and the number of its answer, whatever is asked. From demand 3.
-use Rattle.std.specs.Prelude.{◌≡◌, Bool, ◌&&◌, List, ℕ, suc, ◌≤◌, ◌<◌, ◌^◌, ltb, ℤ, nat_abs}
+use Rattle.std.specs.Prelude.{◌≡◌, Bool, ◌&&◌, List, ℕ, suc, ◌≤◌, ◌<◌, ◌^◌, ltb, ℤ, nat_abs, Ok, Err}
 use Rattle.std.proofs.Math.Path.{refl}
 use Rattle.std.proofs.Common.{subst, arith, ltb-true, ltb-false}
 use Rattle.std.proofs.Math.Bool.{true, false, cond}
@@ -10,8 +10,9 @@ use Rattle.digits.proofs.Laws.Scalar.Signed.{signed_bounded}
 use Rattle.sheet.specs.Answer.{sheet_additions}
 use Rattle.sheet.specs.Plan.{most_slots, is_limit}
 use Rattle.written.specs.Enough.{Enough}
-use Rattle.chooser.specs.declared.next.NextLimit.{NextLimit}
-use Rattle.chooser.specs.declared.next.NextLimit.TheVariants.{BadScalar, BadLimit}
+use Rattle.digits.specs.declared.missed.Missed.TheVariants.{BadScalar, BadLimit}
+use Rattle.std.specs.declared.option.Option.{Option}
+use Rattle.chooser.specs.declared.next.Pays.{Pays}
 use Rattle.chooser.specs.Call.{Cheapest, choice_question}
 use Rattle.chooser.proofs.Laws.Call.Demand.{cheapest_sheet}
 use Rattle.chooser.specs.Cheapest.{cheapest}
@@ -29,7 +30,7 @@ module _ (limits : Limits) (enough : Enough limits) (k l : ℤ) (limit : ℕ) (k
           omega (arith, additions_of limits enough k l limit k_fits l_fits, h i (ltb-true limit i e) below, additions_of limits enough k l i k_fits l_fits, cheapest_is_least limits enough k l i k_fits l_fits t a s)
       go false e = cheapest_is_least limits enough k l limit k_fits l_fits t a (omega (arith, ltb-false limit i e, s))
 
-  pub next_kept : {r : NextLimit} → Next (fewest k l) limit r → NextPromised limits r k l limit
+  pub next_kept : {r : Option Pays} → Next (fewest k l) limit r → NextPromised limits (Ok r) k l limit
   next_kept (pays {n} u v e w q) =
       record {
         larger = u;
@@ -39,11 +40,6 @@ module _ (limits : Limits) (enough : Enough limits) (k l : ℤ) (limit : ℕ) (k
         fewer = omega (arith, w, additions_of limits enough k l limit k_fits l_fits);
       }
   next_kept (none q) = none_fewer (suc most_slots) (λ i x y. q i x (omega arith))
-
--- where a limit is told, or none, no question is missed
-met : {f : ℕ → ℕ} {limit : ℕ} {r : NextLimit} → Next f limit r → next_number r ≡ 0
-met (pays u v e w q) = refl
-met (none q) = refl
 
 module _ (limits : Limits) (k : List ℕ) (k_sign : ℕ) (l : List ℕ) (l_sign : ℕ) (limit : ℕ) where
   -- the two signed scalars
@@ -58,7 +54,7 @@ module _ (limits : Limits) (k : List ℕ) (k_sign : ℕ) (l : List ℕ) (l_sign 
   unfolding next_answer
   next_promised enough bk bl = go (sized limits k) (sized limits l) (is_limit limit) refl refl
     where
-      go : (a b c : Bool) → sized limits k ≡ a → sized limits l ≡ b → NextPromised limits (cond (a && b) (cond c (next_limit x y limit) BadLimit) BadScalar) x y limit
+      go : (a b c : Bool) → sized limits k ≡ a → sized limits l ≡ b → NextPromised limits (cond (a && b) (cond c (Ok (next_limit x y limit)) (Err BadLimit)) (Err BadScalar)) x y limit
       go false b c e f = tt
       go true false c e f = tt
       go true true false e f = tt
@@ -69,8 +65,8 @@ module _ (limits : Limits) (k : List ℕ) (k_sign : ℕ) (l : List ℕ) (l_sign 
   unfolding next_answer
   next_question = go (sized limits k) (sized limits l) (is_limit limit)
     where
-      go : (a b c : Bool) → next_number (cond (a && b) (cond c (next_limit x y limit) BadLimit) BadScalar) ≡ cond a (cond b (cond c 0 4) 1) 1
-      go true true true = met (next_meets x y limit)
+      go : (a b c : Bool) → next_number (cond (a && b) (cond c (Ok (next_limit x y limit)) (Err BadLimit)) (Err BadScalar)) ≡ cond a (cond b (cond c 0 4) 1) 1
+      go true true true = refl
       go true true false = refl
       go true false c = refl
       go false b c = refl

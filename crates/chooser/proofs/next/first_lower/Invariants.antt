@@ -1,10 +1,6 @@
 -- `first_lower` meets its contract. The loop's invariant: the lowest of the numbers before n is known (Lowest).
-use Prim.Native.Nat.{◌-◌}
 use Rattle.chooser.proofs.Lowest.{Seen}
 use Rattle.chooser.proofs.next.first_lower.Given as goal
 
 abbrev pub invariant-loop-n : goal.invariant-loop-n
 invariant-loop-n l = Seen l.numbers l.limit l.n l.least
-
-abbrev pub decreases-loop-n : goal.decreases-loop-n
-decreases-loop-n l = 32 - l.n

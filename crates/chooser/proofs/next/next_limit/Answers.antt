@@ -1,37 +1,29 @@
--- `next_limit` meets its contract: each return is one line of NextAnswers.
-use mathlib.Core.Path.{◌≡◌, sym, ap, ◌∙◌}
-use mathlib.Core.Bool.{◌&&◌}
-use Rattle.digits.specs.declared.limits.Limits.{Limits}
+-- `next_limit` meets its contract: the questions in order, and then the limit of the bytes.
+use Rattle.std.proofs.Common.{rules, sym, subst}
 use Rattle.digits.specs.Limits.{card}
-use Rattle.digits.specs.Scalar.{Bytes, sized}
+use Rattle.digits.specs.Scalar.{signed_scalar}
 use Rattle.written.specs.Enough.{card_enough}
-use Rattle.chooser.proofs.NextAnswers.{no_scalars, no_limit, the_limit}
-use Rattle.chooser.proofs.next.next_limit.Goals.{After-are_scalars}
+use Rattle.chooser.specs.Next.{NextLimit, next_answer, NextPromised}
+use Rattle.chooser.proofs.NextAnswers.{the_limit}
+use Rattle.chooser.proofs.Laws.Next.Promised.{next_promised}
 use Rattle.chooser.proofs.next.next_limit.Goals as goal
 
--- what was asked, that both scalars are bytes, and what the first question told
-module _ (c : After-are_scalars) where
-  k-bytes : Bytes c.args.k.now
-  k-bytes i = (c.type_inv.k i).fits
+pub returns-in_err-check_scalars-clause-answer : goal.returns-in_err-check_scalars-clause-answer
+unfolding next_answer
+returns-in_err-check_scalars-clause-answer c = search rules
 
-  l-bytes : Bytes c.args.l.now
-  l-bytes i = (c.type_inv.l i).fits
+pub returns-in_err-check_limit-clause-answer : goal.returns-in_err-check_limit-clause-answer
+unfolding next_answer
+returns-in_err-check_limit-clause-answer c = search rules
 
-  told : c.are_scalars.result ≡ sized card c.args.k.now && sized card c.args.l.now
-  told = c.are_scalars.ensures ∙ ap (λ (limits : Limits). sized limits c.args.k.now && sized limits c.args.l.now) c.card.ensures
-
-pub returns-then-is_limit : goal.returns-then-is_limit
-returns-then-is_limit c =
+pub returns-clause-answer : goal.returns-clause-answer
+returns-clause-answer c =
     let a = c.args in
-    let old = the_limit card a.k.now a.k_sign a.l.now a.l_sign a.limit card_enough (k-bytes (goal.at.returns-then-is_limit c).After-are_scalars) (l-bytes (goal.at.returns-then-is_limit c).After-are_scalars) (sym (told (goal.at.returns-then-is_limit c).After-are_scalars) ∙ c.if-are_scalars.true)
-    (sym c.is_limit.ensures ∙ c.if-is_limit.true) c.next_of.ensures in record { answer = old.0; promised = old.1.0; question = old.1.1 }
+    the_limit card a.k.bytes.now a.k.sign a.l.bytes.now a.l.sign a.limit c.in_ok-check_scalars.ensures c.in_ok-check_limit.ensures c.next_of.ensures
 
-pub returns-then-are_scalars : goal.returns-then-are_scalars
-returns-then-are_scalars c =
+pub returns-clause-promised : goal.returns-clause-promised
+returns-clause-promised c =
     let a = c.args in
-    let old = no_limit card a.k.now a.k_sign a.l.now a.l_sign a.limit card_enough (k-bytes (goal.at.returns-then-are_scalars c).After-are_scalars) (l-bytes (goal.at.returns-then-are_scalars c).After-are_scalars) (sym (told (goal.at.returns-then-are_scalars c).After-are_scalars) ∙ c.if-are_scalars.true) (sym c.is_limit.ensures ∙ c.if-is_limit.false) in record { answer = old.0; promised = old.1.0; question = old.1.1 }
-
-pub returns : goal.returns
-returns c =
-    let a = c.args in
-    let old = no_scalars card a.k.now a.k_sign a.l.now a.l_sign a.limit card_enough (k-bytes (goal.at.returns c).After-are_scalars) (l-bytes (goal.at.returns c).After-are_scalars) (sym (told (goal.at.returns c).After-are_scalars) ∙ c.if-are_scalars.false) in record { answer = old.0; promised = old.1.0; question = old.1.1 }
+    subst (λ (x : NextLimit). NextPromised card x (signed_scalar a.k.bytes.now a.k.sign) (signed_scalar a.l.bytes.now a.l.sign) a.limit)
+    (sym (the_limit card a.k.bytes.now a.k.sign a.l.bytes.now a.l.sign a.limit c.in_ok-check_scalars.ensures c.in_ok-check_limit.ensures c.next_of.ensures))
+    (next_promised card a.k.bytes.now a.k.sign a.l.bytes.now a.l.sign a.limit card_enough a.k.are_bytes a.l.are_bytes)

@@ -1,14 +1,8 @@
--- `row_sizes` meets its contract. The loop's invariant: the sizes of the first i windows stand, and zeros behind them.
-use mathlib.Core.Path.{◌≡◌}
-use Prim.Native.Nat.{◌*◌, ◌-◌, ◌≤◌}
-use lib.ListN.{length}
+-- `row_sizes` meets its contract. The loop's invariant: the sizes of the first i windows stand.
+use Rattle.std.proofs.Common.{◌≡◌, ℕ, ◌+◌, ◌*◌, ◌<◌, length, get_or}
 use Rattle.digits.specs.Scalar.{scalar}
-use Rattle.chooser.specs.Body.Sizes.{row_sizes}
-use Rattle.chooser.proofs.Windows.{begun}
+use Rattle.chooser.specs.Body.Sizes.{none, row_size}
 use Rattle.chooser.proofs.sizes.row_sizes.Given as goal
 
 abbrev pub invariant-loop-i : goal.invariant-loop-i
-invariant-loop-i l = ((l.i ≤ 16) × (length l.digits ≡ 1025)) × (l.sizes ≡ begun (row_sizes l.limit (scalar l.bytes)) 32 (2 * l.i))
-
-abbrev pub decreases-loop-i : goal.decreases-loop-i
-decreases-loop-i l = 16 - l.i
+invariant-loop-i l = (length l.size-items ≡ 16) × ((i : ℕ) → i < l.i → get_or l.size-items i none ≡ row_size l.limit (scalar l.bytes) (2 * i + 1))

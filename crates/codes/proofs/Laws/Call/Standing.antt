@@ -1,6 +1,6 @@
 -- What stands in the buffers after the call, whatever was asked: the rows that a joint call leaves, and their codes. From the promises of
 -- forms and recode, and from what was written being read back.
-use Rattle.std.specs.Prelude.{◌≡◌, refl, Bool, ◌&&◌, cond, List, length, get_or}
+use Rattle.std.specs.Prelude.{◌≡◌, refl, Bool, ◌&&◌, cond, List, length, get_or, Ok, Err}
 use Rattle.std.proofs.Math.Path.{sym, ap}
 use Rattle.std.proofs.Common.{ap₂, ◌∙◌, arith}
 use Rattle.std.proofs.Math.Bool.{true, false}
@@ -17,11 +17,10 @@ use Rattle.forms.specs.Joint.{joint}
 use Rattle.forms.proofs.Laws.Joint.Value.{joint_small}
 use Rattle.forms.proofs.Laws.Promise.{joint_value, joint_keeps, joint_top, remainder_is, codes_held, codes_digits_lem}
 use Rattle.forms.specs.Test.{rows}
-use Rattle.recode.specs.Call.{number, wrote_columns, roomy, filled, left, joint_answer, joint_buffer}
+use Rattle.recode.specs.Call.{Recoded, number, wrote, wrote_columns, roomy, filled, left, joint_answer, joint_buffer}
 use Rattle.recode.specs.Call.Joint.{digits_of}
 use Rattle.recode.proofs.Laws.Promise.{joint_written, joint_only}
-use Rattle.recode.specs.declared.answer.Recoded.{Recoded}
-use Rattle.recode.specs.declared.answer.Recoded.TheVariants.{BadScalar, BadWindow, NoRoom, Written}
+use Rattle.digits.specs.declared.missed.Missed.TheVariants.{BadScalar, NoRoom}
 use Rattle.codes.specs.Call.{codes_question, if_roomy, codes_answer, codes_of, coded, left_codes, codes_digits, codes_buffer, CodesOf, CodesPromised}
 
 -- the codes of a joint form are as promised
@@ -58,7 +57,7 @@ module _ (limits : Limits) (s : List ℕ) (s_sign : ℕ) (t : List ℕ) (t_sign 
       cs = joint (signed_scalar s s_sign) (signed_scalar t t_sign)
 
       go : (a b c d e f : Bool)
-          → number (if_roomy (e && f) (cond (a && b) (cond (c && d) (wrote_columns cs) NoRoom) BadScalar)) ≡ cond a (cond b (cond c (cond d (cond e (cond f 0 3) 3) 3) 3) 1) 1
+          → number (if_roomy (e && f) (cond (a && b) (cond (c && d) (wrote_columns cs) (Err NoRoom)) (Err BadScalar))) ≡ cond a (cond b (cond c (cond d (cond e (cond f 0 3) 3) 3) 3) 1) 1
       go true true true true true true = refl
       go true true true true true false = refl
       go true true true true false f = refl
@@ -72,23 +71,21 @@ module _ (limits : Limits) (s : List ℕ) (s_sign : ℕ) (t : List ℕ) (t_sign 
     answer = codes_answer limits s s_sign t t_sign (length k) (length l) (length kc) (length lc)
 
     -- where it writes, a joint call with the same digit buffers answers the same, and leaves the same rows
-    pub codes_joint : (n w : ℕ) → answer ≡ Written n w
-        → (joint_answer limits s s_sign t t_sign (length k) (length l) ≡ Written n w) × ((r : Two) → codes_digits limits r s s_sign t t_sign k l kc lc ≡ joint_buffer limits r s s_sign t t_sign k l)
+    pub codes_joint : (n w : ℕ) → answer ≡ wrote n w
+        → (joint_answer limits s s_sign t t_sign (length k) (length l) ≡ wrote n w) × ((r : Two) → codes_digits limits r s s_sign t t_sign k l kc lc ≡ joint_buffer limits r s s_sign t t_sign k l)
     unfolding codes_answer codes_digits joint_buffer
     codes_joint n w e = (f, λ r. ap (λ (a : Recoded). left a (digits_of r s s_sign t t_sign) (of k l r)) (e ∙ sym f))
       where
-        if_written : (met : Bool) (a : Recoded) → if_roomy met a ≡ Written n w → a ≡ Written n w
-        if_written met BadScalar e = e
-        if_written met BadWindow e = e
-        if_written met NoRoom e = e
-        if_written true (Written m v) e = e
-        if_written false (Written m v) e = absurd (omega (arith, ap number e))
+        if_written : (met : Bool) (a : Recoded) → if_roomy met a ≡ wrote n w → a ≡ wrote n w
+        if_written met (Err m) e = e
+        if_written true (Ok v) e = e
+        if_written false (Ok v) e = absurd (omega (arith, ap number e))
 
-        f : joint_answer limits s s_sign t t_sign (length k) (length l) ≡ Written n w
+        f : joint_answer limits s s_sign t t_sign (length k) (length l) ≡ wrote n w
         f = if_written (roomy (max (length s) (length t)) (length kc) && roomy (max (length s) (length t)) (length lc)) (joint_answer limits s s_sign t t_sign (length k) (length l)) e
 
     -- the length is that of the joint form, and the buffers are filled
-    codes_filled : (n w : ℕ) → answer ≡ Written n w
+    codes_filled : (n w : ℕ) → answer ≡ wrote n w
         → (n ≡ length (joint (signed_scalar s s_sign) (signed_scalar t t_sign)))
         × ((r : Two) → (codes_digits limits r s s_sign t t_sign k l kc lc ≡ filled (digits_of r s s_sign t t_sign) (of k l r)) × (codes_buffer limits r s s_sign t t_sign k l kc lc ≡ coded (codes_of r s s_sign t t_sign) (of kc lc r)))
     unfolding codes_digits codes_buffer
@@ -99,7 +96,7 @@ module _ (limits : Limits) (s : List ℕ) (s_sign : ℕ) (t : List ℕ) (t_sign 
           λ r. (ap (λ (x : Recoded). left x (digits_of r s s_sign t t_sign) (of k l r)) e, ap (λ (x : Recoded). left_codes x (codes_of r s s_sign t t_sign) (of kc lc r)) e),
         )
 
-    codes_stand : (n w : ℕ) → answer ≡ Written n w
+    codes_stand : (n w : ℕ) → answer ≡ wrote n w
         → CodesOf (signed_scalar s s_sign) (signed_scalar t t_sign) (λ r. row_below n (of (codes_digits limits P s s_sign t t_sign k l kc lc) (codes_digits limits Q s s_sign t t_sign k l kc lc) r))
         (of (codes_buffer limits P s s_sign t t_sign k l kc lc) (codes_buffer limits Q s s_sign t t_sign k l kc lc))
     codes_stand n w e = same (rows _ (row P, row Q)) (rows _ (code P, code Q)) (codes_are (signed_scalar s s_sign) (signed_scalar t t_sign))
@@ -119,9 +116,7 @@ module _ (limits : Limits) (s : List ℕ) (s_sign : ℕ) (t : List ℕ) (t_sign 
         go : (a : Recoded) → answer ≡ a
             → CodesPromised (signed_scalar s s_sign) (signed_scalar t t_sign) a
             (codes_digits limits P s s_sign t t_sign k l kc lc) (codes_digits limits Q s s_sign t t_sign k l kc lc) (codes_buffer limits P s s_sign t t_sign k l kc lc) (codes_buffer limits Q s s_sign t t_sign k l kc lc)
-        go BadScalar e = tt
-        go BadWindow e = tt
-        go NoRoom e = tt
-        go (Written n w) e =
-            let (f, g) = codes_joint n w e in
-            (rw (g P, g Q) (joint_written limits s s_sign t t_sign k l n w f), codes_stand n w e)
+        go (Err m) e = tt
+        go (Ok w) e =
+            let (f, g) = codes_joint w.length w.weight e in
+            (rw (g P, g Q) (joint_written limits s s_sign t t_sign k l w.length w.weight f), codes_stand w.length w.weight e)

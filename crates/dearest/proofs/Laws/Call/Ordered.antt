@@ -1,6 +1,6 @@
 -- What the calls for a sheet of plan I answer with windows 1 and 1: with the bytes that the call for the dearest scalar leaves, and with any scalars of
 -- the size. From what such sheets cost.
-use Rattle.std.specs.Prelude.{◌≡◌, Bool, true, false, ◌&&◌, cond, List, ℕ, ◌*◌, ◌-◌, ◌^◌, ◌≤◌, ◌<◌}
+use Rattle.std.specs.Prelude.{◌≡◌, Bool, true, false, ◌&&◌, cond, List, ℕ, ◌*◌, ◌-◌, ◌^◌, ◌≤◌, ◌<◌, Err}
 use Rattle.std.proofs.Common.{arith}
 use borrow.Author.Tests.{le-leb}
 use Rattle.std.proofs.Math.IntN.{ℤ}
@@ -12,9 +12,8 @@ use Rattle.digits.specs.declared.limits.Limits.{Limits}
 use Rattle.sheet.specs.declared.Plan.TheVariants.{I}
 use Rattle.written.specs.Written.{digits}
 use Rattle.writer.specs.Call.{additions, roomy, wrote_columns, i_answer}
-use Rattle.writer.specs.Rows.{columns_by}
-use Rattle.writer.specs.declared.answer.Sheet.TheVariants.{BadScalar, NoRoom}
-use Rattle.writer.specs.declared.rows.Rows.TheVariants.{Up}
+use Rattle.writer.specs.Rows.{Up, columns_by}
+use Rattle.digits.specs.declared.missed.Missed.TheVariants.{BadScalar, NoRoom}
 use Rattle.dearest.specs.Call.{Fills}
 use Rattle.dearest.proofs.Laws.Dearest.Order.{additions_twice, additions_most}
 
@@ -31,7 +30,7 @@ module _ {size w : ℕ} {s : List ℕ} (h : Fills size w s) where
       y : ℤ
       y = signed_scalar l l_sign
 
-      go : (a b : Bool) → additions (cond a (cond b (wrote_columns (I 1 1) (columns_by Up 1 1 x y) x y) NoRoom) BadScalar) ≤ 2 * w - 1
+      go : (a b : Bool) → additions (cond a (cond b (wrote_columns (I 1 1) (columns_by Up 1 1 x y) x y) (Err NoRoom)) (Err BadScalar)) ≤ 2 * w - 1
       go true true = additions_most h.heaviest Up x y (rw (scalar_size k k_sign) f) (rw (scalar_size l l_sign) g)
       go true false = omega arith
       go false b = omega arith

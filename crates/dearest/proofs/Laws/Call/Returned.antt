@@ -1,5 +1,5 @@
 -- What each return of the call gives: its clause for the answer, for the buffer, for the promise and for the question.
-use Rattle.std.specs.Prelude.{◌≡◌, ◌≢◌, Bool, cond, List, ℕ, ◌*◌, ◌^◌, ◌≤◌, ◌<◌, ltb, leb, length}
+use Rattle.std.specs.Prelude.{◌≡◌, ◌≢◌, Bool, cond, List, ℕ, ◌*◌, ◌^◌, ◌≤◌, ◌<◌, ltb, leb, length, Ok, Err}
 use Rattle.std.proofs.Math.Path.{refl}
 use Rattle.std.proofs.Common.{sym, subst, lt_of_lt_of_le, pow_mono}
 use Rattle.std.proofs.Math.Bool.{true, false}
@@ -13,7 +13,7 @@ use Rattle.dearest.specs.Bytes.Scalar.{bytes_length, bytes_scalar}
 use Rattle.dearest.specs.Call.{number, is_size, is_room, dearest_answer, left, dearest_buffer, Fills}
 use Rattle.dearest.specs.Dearest.{most, dearest, Heaviest}
 use Rattle.dearest.proofs.Laws.Dearest.Tried.{dearest_meets}
-use Rattle.dearest.specs.declared.answer.Dearest.TheVariants.{BadSize, BadRoom, Found}
+use Rattle.digits.specs.declared.missed.Missed.TheVariants.{NoRoom, BadSize}
 use Rattle.dearest.specs.Call.Returned.{Clauses}
 
 -- a size within the bits of a card's scalar
@@ -39,24 +39,24 @@ fills size e =
 
 module _ (size : ℕ) (buffer : List ℕ) where
   -- question 15 is missed
-  pub bad_size : is_size size ≡ false → Clauses size buffer BadSize buffer
+  pub bad_size : is_size size ≡ false → Clauses size buffer (Err BadSize) buffer
   unfolding dearest_answer dearest_buffer
   bad_size e = rw e (refl, (refl, (tt, refl)))
 
   -- question 3 is
-  pub bad_room : is_size size ≡ true → is_room (length buffer) ≡ false → Clauses size buffer BadRoom buffer
+  pub bad_room : is_size size ≡ true → is_room (length buffer) ≡ false → Clauses size buffer (Err NoRoom) buffer
   unfolding dearest_answer dearest_buffer
   bad_room e f = rw (e, f) (refl, (refl, (tt, refl)))
 
   -- none is
   pub found : (w : ℕ) (out : List ℕ) → is_size size ≡ true → is_room (length buffer) ≡ true → w ≡ most size → out ≡ in_bytes card.bytes (dearest size)
-      → Clauses size buffer (Found w) out
+      → Clauses size buffer (Ok w) out
   unfolding dearest_answer dearest_buffer
   found w out e f g h = rw (e, f, g, h) (refl, (refl, (fills size e, refl)))
 
   -- so where both are met
   pub answered : 1 ≤ size → size ≤ bits card → length buffer ≡ card.bytes
-      → (dearest_answer size (length buffer) ≡ Found (most size)) × ((scalar (dearest_buffer size buffer) ≡ dearest size) × Fills size (most size) (dearest_buffer size buffer))
+      → (dearest_answer size (length buffer) ≡ Ok (most size)) × ((scalar (dearest_buffer size buffer) ≡ dearest size) × Fills size (most size) (dearest_buffer size buffer))
   unfolding dearest_answer dearest_buffer
   answered h g e =
       let f = is_size_lem size h g in
@@ -67,8 +67,8 @@ module _ (size : ℕ) (buffer : List ℕ) where
   unfolding dearest_answer dearest_buffer
   refused = go (is_size size) (is_room (length buffer))
     where
-      go : (a b : Bool) → number (cond a (cond b (Found (most size)) BadRoom) BadSize) ≢ 0
-          → left (cond a (cond b (Found (most size)) BadRoom) BadSize) (in_bytes card.bytes (dearest size)) buffer ≡ buffer
+      go : (a b : Bool) → number (cond a (cond b (Ok (most size)) (Err NoRoom)) (Err BadSize)) ≢ 0
+          → left (cond a (cond b (Ok (most size)) (Err NoRoom)) (Err BadSize)) (in_bytes card.bytes (dearest size)) buffer ≡ buffer
       go true true ne = absurd (ne refl)
       go true false ne = refl
       go false b ne = refl

@@ -9,10 +9,8 @@ use Rattle.sheet.specs.declared.Plan.TheVariants.{I}
 use Rattle.written.proofs.Laws.Promise.{sheet_cost}
 use Rattle.written.specs.Written.{additions_of}
 use Rattle.written.specs.Written.Columns.{paired_weight}
-use Rattle.writer.specs.Rows.{columns_by}
+use Rattle.writer.specs.Rows.{Rows, Up, columns_by}
 use Rattle.writer.proofs.Laws.Rows.Made.{columns_make, columns_cost}
-use Rattle.writer.specs.declared.rows.Rows.{Rows}
-use Rattle.writer.specs.declared.rows.Rows.TheVariants.{Up}
 use Rattle.dearest.specs.Dearest.{naf_weight, dearest, Heaviest}
 use Rattle.dearest.proofs.Laws.Dearest.Tried.{dearest_meets}
 

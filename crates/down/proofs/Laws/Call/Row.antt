@@ -10,7 +10,7 @@ use Rattle.digits.specs.Scalar.{Bytes, signed_scalar}
 use Rattle.recode.specs.Call.Short.{Short}
 use Rattle.recode.proofs.Laws.Call.Short.{answer_short}
 use Rattle.recode.proofs.Laws.Promise.{answer_written}
-use Rattle.recode.specs.declared.answer.Recoded.TheVariants.{Written}
+use Rattle.recode.specs.Call.{wrote}
 use Rattle.down.specs.Call.{down_answer, down_buffer, DownOf}
 use Rattle.down.specs.Down.{down}
 use Rattle.down.proofs.Laws.Down.Row.{down_digits, down_value, down_top, down_length, down_fewest}
@@ -34,6 +34,6 @@ pub down_short : (limits : Limits) (s : List ℕ) (sign m places : ℕ) → Byte
 down_short limits s sign m places = answer_short limits s sign places (down_kept m (signed_scalar s sign))
 
 -- the row that a call writes is the one from the top down of the scalar with its sign
-pub down_written : (limits : Limits) (s : List ℕ) (sign m : ℕ) (buffer : List ℕ) (n w : ℕ) → down_answer limits s sign m (length buffer) ≡ Written n w
+pub down_written : (limits : Limits) (s : List ℕ) (sign m : ℕ) (buffer : List ℕ) (n w : ℕ) → down_answer limits s sign m (length buffer) ≡ wrote n w
     → DownOf m (signed_scalar s sign) w (row_below n (down_buffer limits s sign m buffer))
 down_written limits s sign m buffer = answer_written (down_kept m (signed_scalar s sign)) limits s buffer

@@ -12,7 +12,7 @@ use Rattle.digits.specs.Scalar.{Bytes, scalar, bit_length}
 use Rattle.digits.specs.Scalar.Length.{length_least}
 use Rattle.digits.specs.Scalar.Value.{length_bytes}
 use Rattle.forms.specs.Residue.{width}
-use Rattle.down.specs.declared.window.Window.{Window}
+use Rattle.down.specs.declared.window.WindowDigit.{WindowDigit}
 use Rattle.down.specs.Body.Window.{size_of, WindowOf}
 use Rattle.down.specs.Down.{beyond}
 use Rattle.down.proofs.DownLoop.{DigitTurn, skipped, digit_turn}
@@ -26,7 +26,7 @@ use Rattle.down.proofs.rows.write_digits.Goals as goal
 -- the arguments, and what holds of the places and the weight
 module _ (c : At-loop-bits) where
   abbrev u : ℕ
-  u = scalar c.args.scalar.now
+  u = scalar c.args.bytes.now
 
   abbrev m : ℕ
   m = c.args.m
@@ -37,8 +37,8 @@ module _ (c : At-loop-bits) where
   abbrev P : ℕ
   P = length c.args.out.now
 
-  bytes : Bytes c.args.scalar.now
-  bytes i = (c.type_inv.scalar i).fits
+  bytes : Bytes c.args.bytes.now
+  bytes i = (c.type_inv.bytes i).fits
 
   one : 1 ≤ m
   one = c.requires.recodable.1.0
@@ -56,15 +56,15 @@ module _ (c : At-loop-bits) where
   few-digits = omega (arith, light m u sign P one c.loop-bits.invariant.0, c.requires.cleared.1, c.requires.recodable.0)
 
   long-enough : bit_length u + 1 ≤ P
-  long-enough = omega (arith, c.requires.cleared.1, length_bytes c.args.scalar.now bytes)
+  long-enough = omega (arith, c.requires.cleared.1, length_bytes c.args.bytes.now bytes)
 
 pub loop-bits-init : goal.loop-bits-init
 loop-bits-init c =
-    let s = c.args.scalar.now in
+    let s = c.args.bytes.now in
     let P : ℕ = length c.args.out.now in
     let all : suc (8 * length s) ≡ P = omega (arith, c.requires.cleared.1) in (
       rw all (start c.args.m (scalar s) c.args.sign P c.requires.recodable.1.0 c.args.out.now c.requires.cleared.0),
-      rw (c.new-bits.ensures.0, c.new-bits.ensures.1.0) (start_reading s c.args.sign c.new-bits.result.bits (λ i. (c.type_inv.scalar i).fits) c.new-bits.ensures.1.1),
+      rw (c.new-bits.ensures.0, c.new-bits.ensures.1.0) (start_reading s c.args.sign c.new-bits.result.bits (λ i. (c.type_inv.bytes i).fits) c.new-bits.ensures.1.1),
     )
 
 pub overflow_add-most : goal.overflow_add-most
@@ -82,7 +82,7 @@ module _ (c : After-zeros_above) where
   abbrev held : ℕ
   held = c.loop-bits.bits.held
 
-  read : Reading (u (goal.at.overflow_add-most c).At-loop-bits) (length c.args.scalar.now) (c.args.sign) place c.loop-bits.bits.at held c.loop-bits.bits.bits
+  read : Reading (u (goal.at.overflow_add-most c).At-loop-bits) (length c.args.bytes.now) (c.args.sign) place c.loop-bits.bits.at held c.loop-bits.bits.bits
   read = c.loop-bits.invariant.1
 
   -- the 64 bits that they are the highest of, folded, and how many there are below them
@@ -115,7 +115,7 @@ module _ (c : After-zeros_above) where
       skipped (one (goal.at.overflow_add-most c).At-loop-bits) c.loop-bits.invariant.0 bits.ahead (bit_length x) refl 51 next (omega arith) e
 
   -- a window is
-  module _ (l : c.zeros_above.result + below < held) (r : Window) (made : WindowOf 63 (c.args.m) y (bit_length y) r) where
+  module _ (l : c.zeros_above.result + below < held) (r : WindowDigit) (made : WindowOf 63 (c.args.m) y (bit_length y) r) where
     many : width (c.args.m) ≤ bit_length x
     many = length_many y rest (width (c.args.m)) (omega (arith, bounds (goal.at.overflow_add-most c).At-loop-bits)) (omega (arith, zeros, narrow, read.few))
 
@@ -137,7 +137,7 @@ filled-bits-requires c =
 
 pub loop-bits-preserved-then-bits-le56 : goal.loop-bits-preserved-then-bits-le56
 loop-bits-preserved-then-bits-le56 c =
-    (c.loop-bits.invariant.0, fill_read c.args.scalar.now (c.args.sign) c.loop-bits.bits c.filled-bits.result (bytes (goal.at.loop-bits-preserved-then-bits-le56 c).At-loop-bits) c.if-bits-le56.true c.filled-bits.ensures (read (goal.at.loop-bits-preserved-then-bits-le56 c).After-zeros_above))
+    (c.loop-bits.invariant.0, fill_read c.args.bytes.now (c.args.sign) c.loop-bits.bits c.filled-bits.result (bytes (goal.at.loop-bits-preserved-then-bits-le56 c).At-loop-bits) c.if-bits-le56.true c.filled-bits.ensures (read (goal.at.loop-bits-preserved-then-bits-le56 c).After-zeros_above))
 
 pub returns-then-place-lt51 : goal.returns-then-place-lt51
 returns-then-place-lt51 c =
@@ -156,7 +156,7 @@ module _ (c : After-store-arg-1) where
   inside : c.zeros_above.result + c.args.below < c.loop-bits.bits.held
   inside = omega (arith, c.if-bits-most.false)
 
-  abbrev r : Window
+  abbrev r : WindowDigit
   r = c.window_of-window.result
 
   digit-here : DigitTurn (c.args.m) (u (goal.at.highest-requires c).At-loop-bits) (c.args.sign) (P (goal.at.highest-requires c).At-loop-bits) c.loop-bits.out (c.loop-bits.place) (c.loop-bits.weight) (bits (goal.at.highest-requires c).After-zeros_above).bit r

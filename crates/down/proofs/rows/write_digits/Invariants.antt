@@ -9,7 +9,7 @@ use Rattle.down.proofs.Turns.{Turn}
 use Rattle.down.proofs.rows.write_digits.Given as goal
 
 abbrev pub invariant-loop-bits : goal.invariant-loop-bits
-invariant-loop-bits l = Turn l.m (scalar l.scalar) l.sign (length l.initial.out) l.out (suc l.place) l.weight × Reading (scalar l.scalar) (length l.scalar) l.sign l.place l.bits.at l.bits.held l.bits.bits
+invariant-loop-bits l = Turn l.m (scalar l.bytes) l.sign (length l.initial.out) l.out (suc l.place) l.weight × Reading (scalar l.bytes) (length l.bytes) l.sign l.place l.bits.at l.bits.held l.bits.bits
 
 abbrev pub decreases-loop-bits : goal.decreases-loop-bits
 decreases-loop-bits l = 65 * l.place + (64 - l.bits.held)

@@ -1,71 +1,49 @@
--- `header_of` meets its contract: each return is one line of HeaderRead.
-use mathlib.Core.Path.{sym, ◌∙◌}
+-- `header_of` meets its contract: what each field was read as, up to the first that is none.
+use mathlib.Core.Path.{refl, ◌∙◌}
+use mathlib.Core.Bool.{true, false}
 use Rattle.sheet.specs.Spelling.{comma, cut}
-use Rattle.sheet.proofs.FieldTurns.{decimal_some, decimal_none}
-use Rattle.lines.proofs.HeaderRead.{header_2, header_3, header_4, header_5, header_6, header_7, header_8, header_all}
+use Rattle.lines.proofs.HeaderRead.{header_is}
+use Rattle.lines.proofs.header.header_of.Goals.{else-is_scalar_at-via-then-is_scalar_at+else-is_scalar_at-2, else-is_scalar_at-via-else-is_scalar_at}
 use Rattle.lines.proofs.header.header_of.Goals as goal
 
-pub returns-in_default : goal.returns-in_default
-returns-in_default c = header_2 _ (cut comma c.args.s.now) c.args.joint c.requires (decimal_none _ (sym c.decimal_at-first.ensures ∙ c.in_default.is))
+pub returns-in_err-kind_at : goal.returns-in_err-kind_at
+returns-in_err-kind_at c =
+    c.from_residual.ensures ∙ header_is _ (cut comma c.args.s.now) c.in_err-kind_at.ensures refl refl refl refl refl refl
 
-pub returns-in_default-second : goal.returns-in_default-second
-returns-in_default-second c =
-    header_3 _ (cut comma c.args.s.now) c.args.joint c.requires
-    _ (decimal_some _ _ (sym c.decimal_at-first.ensures ∙ c.in-Is.is))
-    (decimal_none _ (sym c.decimal_at-second.ensures ∙ c.in_default-second.is))
+pub returns-in_err-decimal_at : goal.returns-in_err-decimal_at
+returns-in_err-decimal_at c =
+    c.from_residual-in_err-decimal_at.ensures
+    ∙ header_is _ (cut comma c.args.s.now) c.in_ok-kind_at.ensures c.in_err-decimal_at.ensures refl refl refl refl refl
 
-pub returns-in_default-third : goal.returns-in_default-third
-returns-in_default-third c =
-    header_4 _ (cut comma c.args.s.now) c.args.joint c.requires
-    _ (decimal_some _ _ (sym c.decimal_at-first.ensures ∙ c.in-Is.is))
-    _ (decimal_some _ _ (sym c.decimal_at-second.ensures ∙ c.in-Is-second.is))
-    (decimal_none _ (sym c.decimal_at-third.ensures ∙ c.in_default-third.is))
+pub returns-in_err-decimal_at-2 : goal.returns-in_err-decimal_at-2
+returns-in_err-decimal_at-2 c =
+    c.from_residual-in_err-decimal_at-2.ensures
+    ∙ header_is _ (cut comma c.args.s.now) c.in_ok-kind_at.ensures c.in_ok-decimal_at.ensures c.in_err-decimal_at-2.ensures refl refl refl refl
 
-pub returns-in_default-fourth : goal.returns-in_default-fourth
-returns-in_default-fourth c =
-    header_5 _ (cut comma c.args.s.now) c.args.joint c.requires
-    _ (decimal_some _ _ (sym c.decimal_at-first.ensures ∙ c.in-Is.is))
-    _ (decimal_some _ _ (sym c.decimal_at-second.ensures ∙ c.in-Is-second.is))
-    _ (decimal_some _ _ (sym c.decimal_at-third.ensures ∙ c.in-Is-third.is))
-    (decimal_none _ (sym c.decimal_at-fourth.ensures ∙ c.in_default-fourth.is))
+pub returns-in_err-decimal_at-3 : goal.returns-in_err-decimal_at-3
+returns-in_err-decimal_at-3 c =
+    c.from_residual-in_err-decimal_at-3.ensures
+    ∙ header_is _ (cut comma c.args.s.now) c.in_ok-kind_at.ensures c.in_ok-decimal_at.ensures c.in_ok-decimal_at-2.ensures c.in_err-decimal_at-3.ensures refl refl refl
 
-pub returns-in_default-fifth : goal.returns-in_default-fifth
-returns-in_default-fifth c =
-    header_6 _ (cut comma c.args.s.now) c.args.joint c.requires
-    _ (decimal_some _ _ (sym c.decimal_at-first.ensures ∙ c.in-Is.is))
-    _ (decimal_some _ _ (sym c.decimal_at-second.ensures ∙ c.in-Is-second.is))
-    _ (decimal_some _ _ (sym c.decimal_at-third.ensures ∙ c.in-Is-third.is))
-    _ (decimal_some _ _ (sym c.decimal_at-fourth.ensures ∙ c.in-Is-fourth.is))
-    (decimal_none _ (sym c.decimal_at-fifth.ensures ∙ c.in_default-fifth.is))
+pub returns-in_err-decimal_at-4 : goal.returns-in_err-decimal_at-4
+returns-in_err-decimal_at-4 c =
+    c.from_residual-in_err-decimal_at-4.ensures
+    ∙ header_is _ (cut comma c.args.s.now) c.in_ok-kind_at.ensures c.in_ok-decimal_at.ensures c.in_ok-decimal_at-2.ensures c.in_ok-decimal_at-3.ensures c.in_err-decimal_at-4.ensures refl refl
+
+pub returns-in_err-decimal_at-5 : goal.returns-in_err-decimal_at-5
+returns-in_err-decimal_at-5 c =
+    c.from_residual-in_err-decimal_at-5.ensures
+    ∙ header_is _ (cut comma c.args.s.now) c.in_ok-kind_at.ensures c.in_ok-decimal_at.ensures c.in_ok-decimal_at-2.ensures c.in_ok-decimal_at-3.ensures c.in_ok-decimal_at-4.ensures c.in_err-decimal_at-5.ensures refl
 
 pub returns-then-is_scalar_at-2 : goal.returns-then-is_scalar_at-2
 returns-then-is_scalar_at-2 c =
-    header_all _ (cut comma c.args.s.now) c.args.joint c.requires
-    _ (decimal_some _ _ (sym c.decimal_at-first.ensures ∙ c.in-Is.is))
-    _ (decimal_some _ _ (sym c.decimal_at-second.ensures ∙ c.in-Is-second.is))
-    _ (decimal_some _ _ (sym c.decimal_at-third.ensures ∙ c.in-Is-third.is))
-    _ (decimal_some _ _ (sym c.decimal_at-fourth.ensures ∙ c.in-Is-fourth.is))
-    _ (decimal_some _ _ (sym c.decimal_at-fifth.ensures ∙ c.in-Is-fifth.is))
-    (sym c.is_scalar_at.ensures ∙ c.if-is_scalar_at.true)
-    (sym c.is_scalar_at-then-is_scalar_at.ensures ∙ c.if-is_scalar_at-2.true)
+    header_is _ (cut comma c.args.s.now) {scalars = true} c.in_ok-kind_at.ensures c.in_ok-decimal_at.ensures c.in_ok-decimal_at-2.ensures c.in_ok-decimal_at-3.ensures c.in_ok-decimal_at-4.ensures c.in_ok-decimal_at-5.ensures
+    (rw (← c.if-is_scalar_at.ensures, ← c.if-is_scalar_at-2.ensures))
 
-pub returns-then-is_scalar_at : goal.returns-then-is_scalar_at
-returns-then-is_scalar_at c =
-    header_8 _ (cut comma c.args.s.now) c.args.joint c.requires
-    _ (decimal_some _ _ (sym c.decimal_at-first.ensures ∙ c.in-Is.is))
-    _ (decimal_some _ _ (sym c.decimal_at-second.ensures ∙ c.in-Is-second.is))
-    _ (decimal_some _ _ (sym c.decimal_at-third.ensures ∙ c.in-Is-third.is))
-    _ (decimal_some _ _ (sym c.decimal_at-fourth.ensures ∙ c.in-Is-fourth.is))
-    _ (decimal_some _ _ (sym c.decimal_at-fifth.ensures ∙ c.in-Is-fifth.is))
-    (sym c.is_scalar_at.ensures ∙ c.if-is_scalar_at.true)
-    (sym c.is_scalar_at-then-is_scalar_at.ensures ∙ c.if-is_scalar_at-2.false)
-
-pub returns : goal.returns
-returns c =
-    header_7 _ (cut comma c.args.s.now) c.args.joint c.requires
-    _ (decimal_some _ _ (sym c.decimal_at-first.ensures ∙ c.in-Is.is))
-    _ (decimal_some _ _ (sym c.decimal_at-second.ensures ∙ c.in-Is-second.is))
-    _ (decimal_some _ _ (sym c.decimal_at-third.ensures ∙ c.in-Is-third.is))
-    _ (decimal_some _ _ (sym c.decimal_at-fourth.ensures ∙ c.in-Is-fourth.is))
-    _ (decimal_some _ _ (sym c.decimal_at-fifth.ensures ∙ c.in-Is-fifth.is))
-    (sym c.is_scalar_at.ensures ∙ c.if-is_scalar_at.false)
+pub returns-else-is_scalar_at : goal.returns-else-is_scalar_at
+returns-else-is_scalar_at c =
+    header_is _ (cut comma c.args.s.now) {scalars = false} c.in_ok-kind_at.ensures c.in_ok-decimal_at.ensures c.in_ok-decimal_at-2.ensures c.in_ok-decimal_at-3.ensures c.in_ok-decimal_at-4.ensures c.in_ok-decimal_at-5.ensures
+    (elim c.else-is_scalar_at.branch [
+      | else-is_scalar_at-via-then-is_scalar_at+else-is_scalar_at-2 w ↦ rw (← w.if-is_scalar_at.ensures, ← w.if-is_scalar_at-2.ensures)
+      | else-is_scalar_at-via-else-is_scalar_at w ↦ rw (← w.if-is_scalar_at.ensures)
+    ])

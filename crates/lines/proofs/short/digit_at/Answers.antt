@@ -9,7 +9,7 @@ use lib.ListN.{get_or}
 use borrow.Author.Rules.{rules}
 use borrow.Author.Tests.{ltb-true}
 use Rattle.digits.specs.Scalar.Sized.{both}
-use Rattle.lines.proofs.ShortRead.{moved, spelled}
+use Rattle.lines.proofs.ShortRead.{moved, spelled, takes}
 use Rattle.lines.proofs.short.digit_at.Goals.{Joined-negative, then-negative, else-negative, then-two, else-two, then-two-2, else-two-2}
 use Rattle.lines.proofs.short.digit_at.Goals as goal
 
@@ -39,4 +39,7 @@ returns c =
           spelled (c.args.s.now) (c.args.at) c.if-negative.from c.figure_of-first.result c.figure_of-second.result c.if-two.size c.if-two-2.end c.requires
           c.figure_of-first.ensures c.figure_of-second.ensures (ltb-true c.figure_of-first.result 10 low)
           (eqb (get_or (c.args.s.now) (c.args.at) 0) 45) two refl refl zero (from_is (goal.at.returns c).Joined-negative) size_is end_is;
+      takes =
+          takes (c.args.s.now) (c.args.at) c.if-negative.from c.figure_of-first.result c.figure_of-second.result c.if-two-2.end
+          c.figure_of-first.ensures c.figure_of-second.ensures (from_is (goal.at.returns c).Joined-negative) end_is;
     }

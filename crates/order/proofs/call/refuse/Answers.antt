@@ -3,4 +3,4 @@ use Rattle.order.proofs.Printed.{refused}
 use Rattle.order.proofs.call.refuse.Goals as goal
 
 pub returns : goal.returns
-returns c = refused c.args.number c.args.out.now c.requires.0 c.requires.1
+returns c = rw c.copy_from_slice.ensures.after (refused c.args.number c.args.out.now c.requires.0)

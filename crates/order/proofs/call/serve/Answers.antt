@@ -1,26 +1,29 @@
 -- `serve` meets its contract: the scalars of the figures, the answer of the cheapest call, and what is printed for it.
-use lib.ListN.{take}
+use Rattle.std.specs.Prelude.{Err}
+use Rattle.std.proofs.Common.{ap, ◌∙◌}
+use Rattle.digits.specs.declared.missed.Missed.{Missed}
 use Rattle.sheet.specs.Spelling.Field.{whole_of}
-use Rattle.order.proofs.Printed.{Answers, taken, sheet_printed, limit_printed}
-use Rattle.order.proofs.call.serve.Goals.{After-cheapest-answer}
+use Rattle.order.proofs.Printed.{Answers, sheet_printed, limit_printed}
+use Rattle.order.proofs.call.serve.Goals.{After-cheapest}
 use Rattle.order.proofs.call.serve.Goals as goal
 
-module _ (c : After-cheapest-answer) where
-  answers : Answers (take c.scalar_of-first.result.len c.scalar_of-first.result.bytes) c.scalar_of-first.result.sign (take c.scalar_of-second.result.len c.scalar_of-second.result.bytes) c.scalar_of-second.result.sign
-      c.args.out.now c.args.slots (whole_of 16 c.args.k.now) (whole_of 16 c.args.l.now) c.cheapest-answer.result c.cheapest-answer.new.sheet
+module _ (c : After-cheapest) where
+  answers : Answers c.scalar.result.bytes.now c.scalar.result.sign c.scalar-2.result.bytes.now c.scalar-2.result.sign
+      c.args.out.now c.args.slots (whole_of 16 c.args.k.now) (whole_of 16 c.args.l.now) c.cheapest.result c.cheapest.new.sheet
   answers =
       record {
-        k_size = taken c.scalar_of-first.result.len c.scalar_of-first.result.bytes c.scalar_of-first.ensures.0 c.scalar_of-first.ensures.1.0;
-        l_size = taken c.scalar_of-second.result.len c.scalar_of-second.result.bytes c.scalar_of-second.ensures.0 c.scalar_of-second.ensures.1.0;
+        k_size = c.scalar.ensures.size;
+        l_size = c.scalar-2.ensures.size;
         room = c.requires.1.1;
-        k_is = c.scalar_of-first.ensures.1.1;
-        l_is = c.scalar_of-second.ensures.1.1;
-        answer = c.cheapest-answer.ensures.answer;
-        leaves = c.cheapest-answer.ensures.buffer;
+        k_is = c.scalar.ensures.value ∙ c.scalar_of-k.ensures;
+        l_is = c.scalar-2.ensures.value ∙ c.scalar_of-l.ensures;
+        answer = c.cheapest.ensures.answer;
+        leaves = c.cheapest.ensures.buffer;
       }
 
-pub returns-in-Written : goal.returns-in-Written
-returns-in-Written c = sheet_printed (answers (goal.at.returns-in-Written c).After-cheapest-answer) c.in-Written.is
+pub returns-in-Ok : goal.returns-in-Ok
+returns-in-Ok c = sheet_printed (answers (goal.at.returns-in-Ok c).After-cheapest) c.in-Ok.is
 
-pub returns-in-BadLimit : goal.returns-in-BadLimit
-returns-in-BadLimit c = limit_printed (answers (goal.at.returns-in-BadLimit c).After-cheapest-answer) c.in-BadLimit.is c.refuse.ensures
+pub returns-in-Err-BadLimit : goal.returns-in-Err-BadLimit
+returns-in-Err-BadLimit c =
+    limit_printed (answers (goal.at.returns-in-Err-BadLimit c).After-cheapest) (c.in-Err-BadLimit.is ∙ ap (λ (e : Missed). Err e) c.in-Err-BadLimit.field-0-is) c.refuse.ensures

@@ -1,11 +1,11 @@
--- `lowered` meets its contract.
-use mathlib.Core.Path.{sym}
-use native.Mathlib.Omega.{arith}
-use Rattle.packing.proofs.ColumnBytes.{lowered_none, lowered_some}
+-- `lowered` meets its contract: 255 more than n is 256 more than n less one.
+use Rattle.std.proofs.Common.{◌+◌, ◌/◌, ◌%◌, pos, ◌-ℤ◌, sym, arith}
+use Rattle.digits.specs.Byte.{byte_of}
+use Rattle.digits.specs.Integer.Parts.{rem_only, difference}
 use Rattle.packing.proofs.column.lowered.Goals as goal
 
-pub returns-then-part-eq0 : goal.returns-then-part-eq0
-returns-then-part-eq0 c = sym (lowered_none c.args.part c.if-part-eq0.true)
-
-pub returns-else-part-eq0 : goal.returns-else-part-eq0
-returns-else-part-eq0 c = sym (lowered_some c.args.part (omega (arith, c.if-part-eq0.false)) (omega (arith, c.well_formed)))
+pub returns : goal.returns
+unfolding byte_of
+returns c =
+    let up = c.args.part + 255 in
+    sym (rem_only (pos c.args.part -ℤ pos 1) 256 (up % 256) (up / 256) 1 (omega arith) (omega arith) (omega (arith, difference (pos c.args.part) (pos 1))))

@@ -1,12 +1,8 @@
--- `pack_all` meets its contract. The loop's invariant: the bytes of the first i columns are laid into the buffer.
-use mathlib.Core.Path.{◌≡◌}
-use Prim.Native.Nat.{◌-◌, ◌≤◌}
-use Rattle.packing.specs.Packing.{packed_columns}
-use Rattle.packing.proofs.Laid.{laid}
+-- Each byte so far is its column's.
+use Rattle.std.proofs.Common.{◌≡◌, ℕ, ◌<◌, get_or}
+use Rattle.packing.specs.Body.{column_of}
+use Rattle.packing.specs.Packing.{byte_of_column}
 use Rattle.packing.proofs.columns.pack_all.Given as goal
 
 abbrev pub invariant-loop-i : goal.invariant-loop-i
-invariant-loop-i l = (l.i ≤ l.n) × (l.packed ≡ laid l.i (packed_columns l.n l.k_digits l.l_digits) l.initial.packed)
-
-abbrev pub decreases-loop-i : goal.decreases-loop-i
-decreases-loop-i l = l.n - l.i
+invariant-loop-i l = (j : ℕ) → j < l.i → get_or l.packed j 0 ≡ byte_of_column (column_of (get_or l.k_digits j 0) (get_or l.l_digits j 0))

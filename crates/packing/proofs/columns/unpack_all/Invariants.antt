@@ -1,13 +1,11 @@
--- `unpack_all` meets its contract. The loop's invariant: the digits of the first i columns are laid into both rows.
-use mathlib.Core.Path.{◌≡◌}
-use Prim.Native.Nat.{◌-◌, ◌≤◌}
-use Rattle.digits.specs.Two.{P, Q}
-use Rattle.packing.specs.Packing.{unpacked_row}
-use Rattle.packing.proofs.Laid.{laid}
+-- Each digit so far is its column's.
+use Rattle.std.proofs.Common.{◌≡◌, ℕ, ◌<◌, get_or}
+use Rattle.digits.specs.Byte.{byte_of}
+use Rattle.digits.specs.Two.{P, Q, digit}
+use Rattle.packing.specs.Packing.{column_of_byte}
 use Rattle.packing.proofs.columns.unpack_all.Given as goal
 
 abbrev pub invariant-loop-i : goal.invariant-loop-i
-invariant-loop-i l = (l.i ≤ l.n) × ((l.k_digits ≡ laid l.i (unpacked_row P l.n l.packed) l.initial.k_digits) × (l.l_digits ≡ laid l.i (unpacked_row Q l.n l.packed) l.initial.l_digits))
-
-abbrev pub decreases-loop-i : goal.decreases-loop-i
-decreases-loop-i l = l.n - l.i
+invariant-loop-i l =
+    ((j : ℕ) → j < l.i → get_or l.k_digits j 0 ≡ byte_of (digit (column_of_byte (get_or l.packed j 0)) P))
+    × ((j : ℕ) → j < l.i → get_or l.l_digits j 0 ≡ byte_of (digit (column_of_byte (get_or l.packed j 0)) Q))

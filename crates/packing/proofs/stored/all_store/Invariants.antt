@@ -1,12 +1,8 @@
--- `all_store` meets its contract. The loop's invariant: what was found holds of the first i bytes.
-use mathlib.Core.Path.{◌≡◌}
-use Prim.Native.Nat.{◌-◌, ◌≤◌}
-use lib.ListN.{take}
-use Rattle.packing.specs.Packing.{all_store}
+-- What was found holds of the bytes asked so far.
+use Rattle.std.proofs.Common.{◌≡◌, ℕ, ◌<◌, Bool, take}
+use Rattle.std.specs.List.{list_all}
 use Rattle.packing.proofs.stored.all_store.Given as goal
 
-abbrev pub invariant-loop-i : goal.invariant-loop-i
-invariant-loop-i l = (l.i ≤ l.n) × (l.good ≡ all_store l.what (take l.i l.bytes))
-
-abbrev pub decreases-loop-i : goal.decreases-loop-i
-decreases-loop-i l = l.n - l.i
+abbrev pub invariant-loop-byte : goal.invariant-loop-byte
+invariant-loop-byte g l =
+    (p : ℕ → Bool) → ((b : ℕ) (r : Bool) → b < 256 → g.F.Fn.post l.stores (b, tt) r → r ≡ p b) → l.good ≡ list_all p (take l.byte-index l.bytes)

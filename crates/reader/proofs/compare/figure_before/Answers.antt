@@ -19,6 +19,6 @@ returns c =
     let e : a.end ≡ suc i = omega arith in
     record {
       start = omega arith;
-      is = ap (before a.figures.now) e ∙ before_last a.figures.now i (omega (arith, c.requires.0)) ∙ omega (arith, c.worth_of-figure.ensures);
-      small = omega (arith, c.worth_of-figure.ensures, figure_small a.figures.now i c.requires.1 (omega (arith, c.requires.0)));
+      is = ap (before a.figures.now) e ∙ before_last a.figures.now i (omega (arith, c.requires.0)) ∙ omega (arith, c.worth_of.ensures);
+      small = omega (arith, c.worth_of.ensures, figure_small a.figures.now i c.requires.1 (omega (arith, c.requires.0)));
     }

@@ -20,19 +20,17 @@ use Rattle.reader.proofs.judge.is_right.Goals as goal
 is-scalar : (limits : Limits) (s : List ℕ) (k : ℕ) (f : List ℕ) → f ≡ head_field s k → ScalarIn limits s k → is_whole 16 limits.figures f ≡ true
 is-scalar limits s k f e h = ap (is_whole 16 limits.figures) e ∙ h
 
-pub is-requires : goal.is-requires
-is-requires c =
+pub is_scalar_of-requires-clause-whole : goal.is_scalar_of-requires-clause-whole
+is_scalar_of-requires-clause-whole c =
     let a = c.args in
-    let (held, none) = c.requires.held in
-    let (clear, (p, q)) = c.requires.clear in
-    record { held = (held, (p.near, none)); whole = is-scalar a.limits a.sheet.now 7 _ c.head_field.ensures (head_scalars a.limits a.sheet.now clear.head clear.rest clear.heads).is_k }
+    let clear = c.requires.clear.0 in
+    is-scalar a.limits a.sheet.now 7 _ c.head_field.ensures (head_scalars a.limits a.sheet.now clear.head clear.rest clear.heads).is_k
 
-pub is-requires-then-is : goal.is-requires-then-is
-is-requires-then-is c =
+pub is_scalar_of-requires-then-is_scalar_of-clause-whole : goal.is_scalar_of-requires-then-is_scalar_of-clause-whole
+is_scalar_of-requires-then-is_scalar_of-clause-whole c =
     let a = c.args in
-    let (held, none) = c.requires.held in
-    let (clear, (p, q)) = c.requires.clear in
-    record { held = (held, (q.near, none)); whole = is-scalar a.limits a.sheet.now 8 _ c.head_field-then-is.ensures (head_scalars a.limits a.sheet.now clear.head clear.rest clear.heads).is_l }
+    let clear = c.requires.clear.0 in
+    is-scalar a.limits a.sheet.now 8 _ c.head_field-then-is_scalar_of.ensures (head_scalars a.limits a.sheet.now clear.head clear.rest clear.heads).is_l
 
 module _ (limits : Limits) (s : List ℕ) (p : Clear limits s) where
   -- question 11, put to the header's own scalars
@@ -44,8 +42,8 @@ module _ (limits : Limits) (s : List ℕ) (p : Clear limits s) where
   test : {m : ℤ} (k : ℕ) (x : ℤ) (f : List ℕ) (b : Bool) → f ≡ head_field s k → whole_of 16 (head_field s k) ≡ m → b ≡ same_number x (whole_of 16 f) → b ≡ same_number x m
   test k x f b e z g = g ∙ ap (same_number x) (ap (whole_of 16) e ∙ z)
 
-pub returns-then-is : goal.returns-then-is
-returns-then-is c =
+pub returns-then-is_scalar_of : goal.returns-then-is_scalar_of
+returns-then-is_scalar_of c =
     let limits = c.args.limits in
     let s = c.args.sheet.now in
     let (held, none) = c.requires.held in
@@ -54,11 +52,11 @@ returns-then-is c =
     let x = result (lines limits s) in
     asked limits s h _
     (ap₂ (λ (a b : Bool). a && b)
-    (sym c.if-is.true ∙ test limits s h 7 x.p _ _ c.head_field.ensures z.k (c.is.ensures x.p p))
-    (test limits s h 8 x.q _ _ c.head_field-then-is.ensures z.l (c.is-then-is.ensures x.q q)))
+    (sym c.if-is_scalar_of.true ∙ test limits s h 7 x.p _ _ c.head_field.ensures z.k (c.is_scalar_of.ensures x.p p))
+    (test limits s h 8 x.q _ _ c.head_field-then-is_scalar_of.ensures z.l (c.is_scalar_of-then-is_scalar_of.ensures x.q q)))
 
-pub returns : goal.returns
-returns c =
+pub returns-else-is_scalar_of : goal.returns-else-is_scalar_of
+returns-else-is_scalar_of c =
     let limits = c.args.limits in
     let s = c.args.sheet.now in
     let (held, none) = c.requires.held in
@@ -66,5 +64,5 @@ returns c =
     let z = head_scalars limits s h.head h.rest h.heads in
     let x = result (lines limits s) in
     asked limits s h _
-    (ap (λ (b : Bool). b && same_number x.q h.head.l)
-    (sym c.if-is.false ∙ test limits s h 7 x.p _ _ c.head_field.ensures z.k (c.is.ensures x.p p)))
+    (c.if-is_scalar_of.false ∙ ap (λ (b : Bool). b && same_number x.q h.head.l)
+    (sym c.if-is_scalar_of.false ∙ test limits s h 7 x.p _ _ c.head_field.ensures z.k (c.is_scalar_of.ensures x.p p)))

@@ -1,5 +1,5 @@
 -- What a joint call returns and leaves, by the first question missed, and where all are met.
-use Rattle.std.specs.Prelude.{◌≡◌, refl, true, false, ◌&&◌, List, length}
+use Rattle.std.specs.Prelude.{◌≡◌, refl, true, false, ◌&&◌, List, length, Err}
 use Rattle.std.proofs.Math.Path.{subst}
 use Prim.Native.Nat.{ℕ, ◌+◌, ◌*◌, ◌≤◌, ◌<◌, max}
 use borrow.Author.Tests.{le-leb, lt-leb}
@@ -7,9 +7,8 @@ use Rattle.digits.specs.declared.limits.Limits.{Limits}
 use Rattle.digits.specs.Scalar.{signed_scalar, sized}
 use Rattle.digits.specs.Two.{P, Q}
 use Rattle.forms.specs.Joint.{joint}
-use Rattle.recode.specs.declared.answer.Recoded.{Recoded}
-use Rattle.recode.specs.declared.answer.Recoded.TheVariants.{BadScalar, NoRoom}
-use Rattle.recode.specs.Call.{number, wrote_columns, joint_question, joint_answer, joint_buffer, JointPromised, left, filled}
+use Rattle.digits.specs.declared.missed.Missed.TheVariants.{BadScalar, NoRoom}
+use Rattle.recode.specs.Call.{Recoded, number, wrote_columns, joint_question, joint_answer, joint_buffer, JointPromised, left, filled}
 use Rattle.recode.proofs.Laws.Call.Standing.{joint_question_lem, joint_promised}
 use Rattle.recode.specs.Call.Joint.{digits_of}
 
@@ -29,21 +28,21 @@ module _ (limits : Limits) (s : List ℕ) (s_sign : ℕ) (t : List ℕ) (t_sign 
       (refl, (refl, (refl, (joint_promised limits s s_sign t t_sign k l, joint_question_lem limits s s_sign t t_sign (length k) (length l)))))
 
 module _ (limits : Limits) (s : List ℕ) (s_sign : ℕ) (t : List ℕ) (t_sign : ℕ) (k l : List ℕ) where
-  pub bad_scalar : (sized limits s && sized limits t) ≡ false → Returned limits s s_sign t t_sign k l BadScalar k l
+  pub bad_scalar : (sized limits s && sized limits t) ≡ false → Returned limits s s_sign t t_sign k l (Err BadScalar) k l
   unfolding joint_answer
-  bad_scalar e = returned limits s s_sign t t_sign k l BadScalar (rw e)
+  bad_scalar e = returned limits s s_sign t t_sign k l (Err BadScalar) (rw e)
 
   module _ (sizes : (sized limits s && sized limits t) ≡ true) where
-    pub no_first : length k < 8 * max (length s) (length t) + 1 → Returned limits s s_sign t t_sign k l NoRoom k l
+    pub no_first : length k < 8 * max (length s) (length t) + 1 → Returned limits s s_sign t t_sign k l (Err NoRoom) k l
     unfolding joint_answer
     no_first h =
-        returned limits s s_sign t t_sign k l NoRoom (rw (sizes, lt-leb (8 * max (length s) (length t) + 1) (length k) h))
+        returned limits s s_sign t t_sign k l (Err NoRoom) (rw (sizes, lt-leb (8 * max (length s) (length t) + 1) (length k) h))
 
     module _ (room : 8 * max (length s) (length t) + 1 ≤ length k) where
-      pub no_second : length l < 8 * max (length s) (length t) + 1 → Returned limits s s_sign t t_sign k l NoRoom k l
+      pub no_second : length l < 8 * max (length s) (length t) + 1 → Returned limits s s_sign t t_sign k l (Err NoRoom) k l
       unfolding joint_answer
       no_second h =
-          returned limits s s_sign t t_sign k l NoRoom
+          returned limits s s_sign t t_sign k l (Err NoRoom)
           (rw (sizes, le-leb (8 * max (length s) (length t) + 1) (length k) room, lt-leb (8 * max (length s) (length t) + 1) (length l) h))
 
       pub written : (a : Recoded) (k' l' : List ℕ) → 8 * max (length s) (length t) + 1 ≤ length l → a ≡ wrote_columns (joint (signed_scalar s s_sign) (signed_scalar t t_sign))

@@ -1,5 +1,5 @@
 -- How long and how heavy what a call writes can be, whatever was asked: 8 places for each byte of the longest scalar and one more.
-use Rattle.std.specs.Prelude.{◌≡◌, ◌&&◌, List, ℤ}
+use Rattle.std.specs.Prelude.{◌≡◌, ◌&&◌, List, ℤ, Err}
 use Rattle.std.proofs.Math.Path.{ap}
 use Rattle.std.proofs.Math.Bool.{Bool, true, cond}
 use Prim.Native.Nat.{ℕ, ◌+◌, ◌*◌, ◌≤◌, max}
@@ -17,9 +17,8 @@ use Rattle.digits.specs.Scalar.Value.{length_bytes}
 use Rattle.digits.specs.Two.{two}
 use Rattle.forms.specs.Joint.{joint}
 use Rattle.forms.proofs.Laws.Promise.{joint_length}
-use Rattle.recode.specs.declared.answer.Recoded.{Recoded}
-use Rattle.recode.specs.declared.answer.Recoded.TheVariants.{BadScalar, BadWindow, NoRoom}
-use Rattle.recode.specs.Call.{wrote_row, wrote_columns, roomy, answer_with, row_answer, RowBy, joint_answer}
+use Rattle.digits.specs.declared.missed.Missed.TheVariants.{BadScalar, BadWindow, NoRoom}
+use Rattle.recode.specs.Call.{Recoded, wrote_row, wrote_columns, roomy, answer_with, row_answer, RowBy, joint_answer}
 use Rattle.recode.proofs.Laws.Call.Standing.{row_kept}
 use Rattle.recode.specs.Call.Short.{Short}
 
@@ -34,10 +33,10 @@ module _ (limits : Limits) where
   answer_short {R} {m} {ds} s sign places kept bytes =
       let written : Recoded = wrote_row ds in
       let room : Bool = roomy (length s) places in
-      let asked : Recoded = cond room written NoRoom in
-      either_way (Short most) (sized limits s) (cond (is_window m) asked BadWindow) BadScalar
-      (λ e. either_way (Short most) (is_window m) asked BadWindow
-      (λ w. either_way (Short most) room written NoRoom
+      let asked : Recoded = cond room written (Err NoRoom) in
+      either_way (Short most) (sized limits s) (cond (is_window m) asked (Err BadWindow)) (Err BadScalar)
+      (λ e. either_way (Short most) (is_window m) asked (Err BadWindow)
+      (λ w. either_way (Short most) room written (Err NoRoom)
       (λ _. record { length_most = few e (kept w); weight_most = Rows.weight_most ds }) (omega arith)) (omega arith)) (omega arith)
     where
       few : sized limits s ≡ true → RowBy R m (signed_scalar s sign) (weight ds) ds → length ds ≤ most
@@ -68,6 +67,6 @@ module _ (limits : Limits) where
       let longer : ℕ = max (length s) (length t) in
       let room : Bool = roomy longer places && roomy longer places' in
       let written : Recoded = wrote_columns (joint (signed_scalar s s_sign) (signed_scalar t t_sign)) in
-      either_way (Short most) (sized limits s && sized limits t) (cond room written NoRoom) BadScalar
-      (λ e. either_way (Short most) room written NoRoom
+      either_way (Short most) (sized limits s && sized limits t) (cond room written (Err NoRoom)) (Err BadScalar)
+      (λ e. either_way (Short most) room written (Err NoRoom)
       (λ _. record { length_most = joint_places s s_sign t t_sign s_bytes t_bytes e; weight_most = Columns.weight_most two (joint (signed_scalar s s_sign) (signed_scalar t t_sign)) }) (omega arith)) (omega arith)

@@ -1,6 +1,6 @@
 -- What stands in the buffers after a row or joint call, whatever was asked: a row that keeps what is promised, as 01's does, or the joint
 -- columns. From the promises of forms, and from what was written being read back.
-use Rattle.std.specs.Prelude.{◌≡◌, refl, true, false, ◌&&◌, ℕ, ◌≤◌, max, length, ℤ}
+use Rattle.std.specs.Prelude.{◌≡◌, refl, true, false, ◌&&◌, ℕ, ◌≤◌, max, length, ℤ, Err}
 use Rattle.std.proofs.Common.{sym, ap, ap₂, subst, ◌∙◌, arith}
 use Rattle.std.proofs.Math.Bool.{Bool, cond}
 use mathlib.Core.List.{List}
@@ -16,12 +16,13 @@ use Rattle.forms.specs.Joint.{Keeps, Topped, joint}
 use Rattle.forms.proofs.Laws.Joint.Value.{joint_small}
 use Rattle.forms.proofs.Laws.Promise.{row_meets, row_digits, row_value, row_top, row_length, row_fewest, joint_value, joint_keeps, joint_top, joint_length, joint_only, joint_fewest}
 use Rattle.forms.specs.Row.{row}
-use Rattle.recode.specs.declared.answer.Recoded.{Recoded}
-use Rattle.recode.specs.declared.answer.Recoded.TheVariants.{BadScalar, BadWindow, NoRoom, Written}
+use Rattle.digits.specs.declared.missed.Missed.TheVariants.{BadScalar, BadWindow, NoRoom}
 use Rattle.recode.specs.Call.{
+  Recoded,
   number,
   places_written,
   weight_written,
+  wrote,
   wrote_row,
   wrote_columns,
   roomy,
@@ -62,7 +63,7 @@ pub row_question_lem : (limits : Limits) (s : List ℕ) (m : ℕ) (ds : List ℤ
 unfolding answer_with
 row_question_lem limits s m ds places = go (sized limits s) (is_window m) (roomy (length s) places)
   where
-    go : (a b c : Bool) → number (cond a (cond b (cond c (wrote_row ds) NoRoom) BadWindow) BadScalar) ≡ cond a (cond b (cond c 0 3) 2) 1
+    go : (a b c : Bool) → number (cond a (cond b (cond c (wrote_row ds) (Err NoRoom)) (Err BadWindow)) (Err BadScalar)) ≡ cond a (cond b (cond c 0 3) 2) 1
     go true true true = refl
     go true true false = refl
     go true false c = refl
@@ -81,7 +82,7 @@ module _ {R : List ℤ → Type 0} {m : ℕ} {c : ℤ} {ds : List ℤ} (kept : i
   row_promised limits s buffer = go (sized limits s) (is_window m) (roomy (length s) (length buffer)) (row_stands buffer)
     where
       answer : Bool → Bool → Bool → Recoded
-      answer a b c = cond a (cond b (cond c (wrote_row ds) NoRoom) BadWindow) BadScalar
+      answer a b c = cond a (cond b (cond c (wrote_row ds) (Err NoRoom)) (Err BadWindow)) (Err BadScalar)
 
       go : (a b d : Bool) → (b ≡ true → RowBy R m c (weight ds) (row_below (length ds) (filled ds buffer)))
           → PromisedBy R m c (answer a b d) (left (answer a b d) ds buffer)
@@ -114,7 +115,7 @@ module _ (limits : Limits) (s : List ℕ) (s_sign : ℕ) (t : List ℕ) (t_sign 
       cs : List Column
       cs = joint (signed_scalar s s_sign) (signed_scalar t t_sign)
 
-      go : (a b c d : Bool) → number (cond (a && b) (cond (c && d) (wrote_columns cs) NoRoom) BadScalar) ≡ cond a (cond b (cond c (cond d 0 3) 3) 1) 1
+      go : (a b c d : Bool) → number (cond (a && b) (cond (c && d) (wrote_columns cs) (Err NoRoom)) (Err BadScalar)) ≡ cond a (cond b (cond c (cond d 0 3) 3) 1) 1
       go true true true true = refl
       go true true true false = refl
       go true true false d = refl
@@ -131,7 +132,7 @@ module _ (limits : Limits) (s : List ℕ) (s_sign : ℕ) (t : List ℕ) (t_sign 
       cs = joint (signed_scalar s s_sign) (signed_scalar t t_sign)
 
       answer : Bool → Bool → Recoded
-      answer a b = cond a (cond b (wrote_columns cs) NoRoom) BadScalar
+      answer a b = cond a (cond b (wrote_columns cs) (Err NoRoom)) (Err BadScalar)
 
       go : (a b : Bool)
           → JointPromised (signed_scalar s s_sign) (signed_scalar t t_sign) (answer a b) (left (answer a b) (Columns.row two P cs) k) (left (answer a b) (Columns.row two Q cs) l)
@@ -140,7 +141,7 @@ module _ (limits : Limits) (s : List ℕ) (s_sign : ℕ) (t : List ℕ) (t_sign 
       go true false = tt
       go false b = tt
 
-written_parts : (a b : Bool) (m v n w : ℕ) → cond a (cond b (Written m v) NoRoom) BadScalar ≡ Written n w → (n ≡ m) × (w ≡ v)
+written_parts : (a b : Bool) (m v n w : ℕ) → cond a (cond b (wrote m v) (Err NoRoom)) (Err BadScalar) ≡ wrote n w → (n ≡ m) × (w ≡ v)
 written_parts true true m v n w e = (sym (ap places_written e), sym (ap weight_written e))
 written_parts true false m v n w e = absurd (omega (arith, ap number e))
 written_parts false b m v n w e = absurd (omega (arith, ap number e))
@@ -148,7 +149,7 @@ written_parts false b m v n w e = absurd (omega (arith, ap number e))
 -- columns that keep the rules with a non-zero top are the ones that a joint call writes for their values
 pub joint_only_written : (limits : Limits) (s : List ℕ) (s_sign : ℕ) (t : List ℕ) (t_sign : ℕ) (k l : List ℕ) (n w : ℕ) (cs : List Column) → Keeps cs → Topped cs
     → value (Columns.row two P cs) ≡ signed_scalar s s_sign → value (Columns.row two Q cs) ≡ signed_scalar t t_sign
-    → joint_answer limits s s_sign t t_sign (length k) (length l) ≡ Written n w
+    → joint_answer limits s s_sign t t_sign (length k) (length l) ≡ wrote n w
     → ((n ≡ length cs) × (w ≡ Columns.weight two cs))
     × ((joint_buffer limits P s s_sign t t_sign k l ≡ filled (Columns.row two P cs) k) × (joint_buffer limits Q s s_sign t t_sign k l ≡ filled (Columns.row two Q cs) l))
 unfolding joint_answer joint_buffer

@@ -9,9 +9,9 @@ use Rattle.recode.proofs.columns.both_zeros.Goals as goal
 pub zeros_of-requires : goal.zeros_of-requires
 zeros_of-requires c =
     let a = c.args in (
-      c.requires.0.0.few,
-      or_lt (a.k.bits + 1) _ _ (one_bit_more a.k.bits a.k.low (omega arith) c.requires.0.0.low)
-          (rw c.requires.1.0 (one_bit_more a.l.bits a.l.low (omega arith) c.requires.0.1.low)),
+      a.k.few,
+      or_lt (a.k.bits + 1) _ _ (one_bit_more a.k.bits a.k.low (omega arith) a.k.carried)
+          (rw c.requires.0 (one_bit_more a.l.bits a.l.low (omega arith) a.l.carried)),
     )
 
 pub returns : goal.returns

@@ -39,7 +39,7 @@ Standing c s t place =
 full : (c : After-filled-l_full) → Standing (goal.at.both_ended-requires c).At-loop-table c.filled-k_full.result c.filled-l_full.result c.loop-table.place
 full c =
     refill (given (goal.at.both_ended-requires c).After-digit_table-table) c.loop-table.k_low c.filled-k_full.result c.loop-table.l_low c.filled-l_full.result c.filled-k_full.ensures.0
-    c.filled-k_full.ensures.1.0 c.filled-l_full.ensures.0 c.filled-l_full.ensures.1.0 (omega (arith, c.loop-table.invariant.level)) c.loop-table.invariant
+    c.filled-l_full.ensures.0 (omega (arith, c.loop-table.invariant.level)) c.loop-table.invariant
 
 pub loop-table-init : goal.loop-table-init
 loop-table-init c =
@@ -79,7 +79,7 @@ overflow_add-place c = omega (arith, within c, c.well_formed)
 
 pub loop-table-smaller-then-k_odd-lt3 : goal.loop-table-smaller-then-k_odd-lt3
 loop-table-smaller-then-k_odd-lt3 c =
-    omega (arith, within (goal.at.loop-table-smaller-then-k_odd-lt3 c).After-shifted-l_odd, (odd (goal.at.loop-table-smaller-then-k_odd-lt3 c).After-shifted-l_odd).k_long, c.if-k_odd-lt3.true, c.shifted-k_odd.ensures.1.1.0, c.filled-k_full.ensures.1.1.0)
+    omega (arith, within (goal.at.loop-table-smaller-then-k_odd-lt3 c).After-shifted-l_odd, (odd (goal.at.loop-table-smaller-then-k_odd-lt3 c).After-shifted-l_odd).k_long, c.if-k_odd-lt3.true, c.shifted-k_odd.ensures.1.0, c.filled-k_full.ensures.1.0)
 
 pub loop-table-preserved-then-k_odd-lt3 : goal.loop-table-preserved-then-k_odd-lt3
 loop-table-preserved-then-k_odd-lt3 c = odd (goal.at.loop-table-preserved-then-k_odd-lt3 c).After-shifted-l_odd
@@ -103,9 +103,9 @@ module _ (c : After-joint_digit-l_digit) where
   parity =
       omega (
         arith,
-        c.both_zeros-zeros.ensures.ended (omega (arith, c.if-k_odd-lt3.false, c.shifted-k_odd.ensures.1.1.0)),
-        c.shifted-k_odd.ensures.1.1.1,
-        c.shifted-l_odd.ensures.1.1.1,
+        c.both_zeros-zeros.ensures.ended (omega (arith, c.if-k_odd-lt3.false, c.shifted-k_odd.ensures.1.0)),
+        c.shifted-k_odd.ensures.1.1,
+        c.shifted-l_odd.ensures.1.1,
       )
 
   enough : (3 ≤ c.shifted-k_odd.result.bits) × (3 ≤ c.shifted-l_odd.result.bits)
@@ -114,13 +114,13 @@ module _ (c : After-joint_digit-l_digit) where
 pub less-k_low-requires : goal.less-k_low-requires
 less-k_low-requires c =
     let s = c.shifted-k_odd.result in
-    less_asks c.joint_digit-k_digit.result (k-tiny c) s (odd (goal.at.less-k_low-requires c).After-shifted-l_odd).k_held (omega (arith, (enough c).0))
+    less_asks c.joint_digit-k_digit.result (k-tiny c) s (omega (arith, (enough c).0))
     (halved s c.shifted-l_odd.result c.joint_digit-k_digit.result (k-digit c))
 
 pub less-l_low-requires : goal.less-l_low-requires
 less-l_low-requires c =
     let t = c.shifted-l_odd.result in
-    less_asks c.joint_digit-l_digit.result (l-tiny (goal.at.less-l_low-requires c).After-joint_digit-l_digit) t (odd (goal.at.less-l_low-requires c).After-shifted-l_odd).l_held (omega (arith, (enough (goal.at.less-l_low-requires c).After-joint_digit-l_digit).1))
+    less_asks c.joint_digit-l_digit.result (l-tiny (goal.at.less-l_low-requires c).After-joint_digit-l_digit) t (omega (arith, (enough (goal.at.less-l_low-requires c).After-joint_digit-l_digit).1))
     (halved t c.shifted-k_odd.result c.joint_digit-l_digit.result (l-digit (goal.at.less-l_low-requires c).After-joint_digit-l_digit))
 
 pub overflow_cast-k_digit : goal.overflow_cast-k_digit

@@ -14,13 +14,13 @@ use Rattle.digits.specs.Scalar.{little, scalar, bit_length}
 use Rattle.digits.specs.Two.{Column, P, Q, two}
 use Rattle.forms.specs.Joint.{joint}
 use Rattle.forms.proofs.Laws.Joint.Length.{joint_length}
-use Rattle.recode.specs.Call.{wrote_columns, filled}
+use Rattle.recode.specs.Call.{columns_size, filled}
 use Rattle.recode.specs.Call.Lent.{first_length, first_cleared, first_filled, first_places}
 use Rattle.recode.proofs.Prefix.{first_bytes}
-use Rattle.recode.proofs.columns.write_joint.Goals.{After-larger-places, After-slice_known-8-1}
+use Rattle.recode.proofs.columns.write_joint.Goals.{After-max-places, After-slice_known-8-1}
 use Rattle.recode.proofs.columns.write_joint.Goals as goal
 
-module _ (c : After-larger-places) where
+module _ (c : After-max-places) where
   k-few : c.bits_of-k_bits.result ≤ 8 * length c.args.k.now
   k-few = omega (arith, c.bits_of-k_bits.ensures, length_bytes c.args.k.now (λ i. (c.type_inv.k i).fits))
 
@@ -28,8 +28,8 @@ module _ (c : After-larger-places) where
   l-few =
       omega (arith, c.bits_of-l_bits.ensures, length_bytes c.args.l.now (λ i. (c.type_inv.l i).fits))
 
-  few : c.larger-places.result ≤ 8 * max (length c.args.k.now) (length c.args.l.now)
-  few = omega (arith, c.larger-places.ensures, k-few, l-few)
+  few : c.max-places.result ≤ 8 * max (length c.args.k.now) (length c.args.l.now)
+  few = omega (arith, c.max-places.ensures, k-few, l-few)
 
 pub overflow_add-places : goal.overflow_add-places
 overflow_add-places c = omega (arith, few c, c.requires.scalars)
@@ -37,7 +37,7 @@ overflow_add-places c = omega (arith, few c, c.requires.scalars)
 -- once the buffers are cleared: their first places, and the numbers that were copied
 module _ (c : After-slice_known-8-1) where
   abbrev places : ℕ
-  places = c.larger-places.result + 1
+  places = c.max-places.result + 1
 
   abbrev k-out : List ℕ
   k-out = c.args.k_out.now
@@ -66,19 +66,19 @@ module _ (c : After-slice_known-8-1) where
   l-bytes = take ((c.bits_of-l_bits.result + 7) / 8) c.copy_into-2.new.bytes
 
   k-within : (c.bits_of-k_bits.result + 7) / 8 ≤ length c.copy_into.new.bytes
-  k-within = omega (arith, k-few (goal.at.overflow_add-k_used c).After-larger-places, c.requires.first_remainder, c.copy_into.auto)
+  k-within = omega (arith, k-few (goal.at.overflow_add-k_used c).After-max-places, c.requires.first_remainder, c.copy_into.auto)
 
   l-within : (c.bits_of-l_bits.result + 7) / 8 ≤ length c.copy_into-2.new.bytes
-  l-within = omega (arith, l-few (goal.at.overflow_add-k_used c).After-larger-places, c.requires.second_remainder, c.copy_into-2.auto)
+  l-within = omega (arith, l-few (goal.at.overflow_add-k_used c).After-max-places, c.requires.second_remainder, c.copy_into-2.auto)
 
   abbrev columns : List Column
   columns = joint (pos (little k-bytes)) (pos (little l-bytes))
 
   k-enough : places ≤ length k-out
-  k-enough = omega (arith, few (goal.at.overflow_add-k_used c).After-larger-places, c.requires.room)
+  k-enough = omega (arith, few (goal.at.overflow_add-k_used c).After-max-places, c.requires.room)
 
   l-enough : places ≤ length l-out
-  l-enough = omega (arith, few (goal.at.overflow_add-k_used c).After-larger-places, c.requires.room)
+  l-enough = omega (arith, few (goal.at.overflow_add-k_used c).After-max-places, c.requires.room)
 
   k-number : little k-bytes ≡ scalar c.args.k.now
   k-number =
@@ -94,7 +94,7 @@ module _ (c : After-slice_known-8-1) where
   short =
       let a = c.args in
       rw (k-number, l-number)
-      (omega (arith, joint_length (pos (scalar a.k.now)) (pos (scalar a.l.now)), c.bits_of-k_bits.ensures, c.bits_of-l_bits.ensures, c.larger-places.ensures))
+      (omega (arith, joint_length (pos (scalar a.k.now)) (pos (scalar a.l.now)), c.bits_of-k_bits.ensures, c.bits_of-l_bits.ensures, c.max-places.ensures))
 
   k-first : length (take places k-clear) ≡ places
   k-first = first_length k-out k-clear places k-cleared k-enough
@@ -103,10 +103,10 @@ module _ (c : After-slice_known-8-1) where
   l-first = first_length l-out l-clear places l-cleared l-enough
 
 pub overflow_add-k_used : goal.overflow_add-k_used
-overflow_add-k_used c = omega (arith, k-few (goal.at.overflow_add-k_used c).After-larger-places, c.requires.scalars)
+overflow_add-k_used c = omega (arith, k-few (goal.at.overflow_add-k_used c).After-max-places, c.requires.scalars)
 
 pub overflow_add-l_used : goal.overflow_add-l_used
-overflow_add-l_used c = omega (arith, l-few (goal.at.overflow_add-l_used c).After-larger-places, c.requires.scalars)
+overflow_add-l_used c = omega (arith, l-few (goal.at.overflow_add-l_used c).After-max-places, c.requires.scalars)
 
 pub slice_bounds-write_columns-end : goal.slice_bounds-write_columns-end
 slice_bounds-write_columns-end c = k-within c
@@ -151,7 +151,7 @@ write_columns-requires c =
 pub returns : goal.returns
 returns c =
     let cs = columns (goal.at.returns c).After-slice_known-8-1 in record {
-      answer = c.write_columns.ensures.answer ∙ ap₂ (λ (a b : ℕ). wrote_columns (joint (pos a) (pos b))) (k-number (goal.at.returns c).After-slice_known-8-1) (l-number (goal.at.returns c).After-slice_known-8-1);
+      answer = c.write_columns.ensures.answer ∙ ap₂ (λ (a b : ℕ). columns_size (joint (pos a) (pos b))) (k-number (goal.at.returns c).After-slice_known-8-1) (l-number (goal.at.returns c).After-slice_known-8-1);
       first = first_filled (c.args.k_out.now) (c.clear.new.buffer) (places (goal.at.returns c).After-slice_known-8-1) (k-cleared (goal.at.returns c).After-slice_known-8-1) (k-enough (goal.at.returns c).After-slice_known-8-1) (Columns.row two P cs) _ (omega (arith, short (goal.at.returns c).After-slice_known-8-1, row_length two P cs)) c.write_columns.ensures.first
           ∙ ap₂ (λ (a b : ℕ). filled (Columns.row two P (joint (pos a) (pos b))) (c.args.k_out.now)) (k-number (goal.at.returns c).After-slice_known-8-1) (l-number (goal.at.returns c).After-slice_known-8-1);
       second = first_filled (c.args.l_out.now) (c.clear-2.new.buffer) (places (goal.at.returns c).After-slice_known-8-1) (l-cleared (goal.at.returns c).After-slice_known-8-1) (l-enough (goal.at.returns c).After-slice_known-8-1) (Columns.row two Q cs) _ (omega (arith, short (goal.at.returns c).After-slice_known-8-1, row_length two Q cs)) c.write_columns.ensures.second

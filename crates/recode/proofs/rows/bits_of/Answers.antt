@@ -8,7 +8,7 @@ use Rattle.recode.proofs.rows.bits_of.Goals as goal
 module _ (c : After-bit_length-length) where
   few : 8 * c.bit_length-length.result.below + c.bit_length-length.result.top ≤ 1024
   few =
-      omega (arith, c.bit_length-length.ensures, c.requires, length_bytes c.args.scalar.now (λ i. (c.type_inv.scalar i).fits))
+      omega (arith, c.bit_length-length.ensures, c.requires, length_bytes c.args.bytes.now (λ i. (c.type_inv.bytes i).fits))
 
 pub overflow_mul-result : goal.overflow_mul-result
 overflow_mul-result c = omega (arith, few (goal.at.overflow_mul-result c).After-bit_length-length)

@@ -1,57 +1,28 @@
--- `row_within` meets its contract: each return is one line of Call.Row.
-use native.Mathlib.Omega.{arith}
-use native.Mathlib.Nat.{le_trans}
-use mathlib.Core.Path.{◌≡◌, sym, ◌∙◌}
-use mathlib.Core.Bool.{true}
-use Prim.Native.Nat.{◌≤◌}
-use lib.ListN.{length}
-use Rattle.digits.specs.Limits.{gateway}
+-- `row_within` meets its contract: the questions in order, and then the row of the bytes is given the sign.
+use Rattle.std.specs.Prelude.{◌≡◌, true, Ok, ◌≤◌}
+use Rattle.std.proofs.Common.{ap, ◌∙◌, arith, leb-true}
 use Rattle.digits.specs.Row.{is_window}
 use Rattle.digits.specs.Row.Window.{window_parts}
-use Rattle.digits.specs.Scalar.{signed_scalar, sized}
-use Rattle.digits.specs.Scalar.Sized.{some_bytes}
-use Rattle.recode.proofs.Laws.Call.Row.{bad_scalar, bad_window, no_room, written}
+use Rattle.digits.specs.Scalar.{signed_scalar}
+use Rattle.recode.specs.declared.answer.Written.{Written}
+use Rattle.recode.specs.Body.Sign.{signed_below}
+use Rattle.recode.proofs.Laws.Call.Row.{written}
 use Rattle.recode.proofs.Laws.Call.Standing.{row_kept}
-use Rattle.recode.proofs.rows.row_within.Goals.{Then-is_scalar, Then-is_window}
+use Rattle.recode.proofs.Signed.{signed_row, wrote_signed_row}
 use Rattle.recode.proofs.rows.row_within.Goals as goal
-
--- question 1 is met
-module _ (c : Then-is_scalar) where
-  size : sized c.args.limits c.args.scalar.now ≡ true
-  size = sym c.is_scalar.ensures ∙ c.if-is_scalar.true
-
-  few : length c.args.scalar.now ≤ c.args.limits.bytes
-  few = (some_bytes c.args.limits c.args.scalar.now size).1
-
-  few-gateway : length c.args.scalar.now ≤ gateway.bytes
-  few-gateway = le_trans few c.requires.0
-
--- question 2 is met
-module _ (c : Then-is_window) where
-  window : is_window c.args.m ≡ true
-  window = sym c.is_window.ensures ∙ c.if-is_window.true
-
-  -- so m is 1 to 31
-  bounds : (1 ≤ c.args.m) × (c.args.m ≤ 31)
-  bounds = let (odd, within) = window_parts c.args.m window in (omega arith, within)
-
-pub returns-then-digits-scalar : goal.returns-then-digits-scalar
-returns-then-digits-scalar c =
-    let a = c.args in
-    let old = no_room (row_kept a.m (signed_scalar a.scalar.now a.sign)) a.limits a.scalar.now a.digits.now (size (goal.at.returns-then-digits-scalar c).Then-is_scalar) (window (goal.at.returns-then-digits-scalar c).Then-is_window) c.if-digits-scalar.true in record { answer = old.0; buffer = old.1.0; promised = old.1.1.0; question = old.1.1.1 }
-
-pub returns-then-is_window : goal.returns-then-is_window
-returns-then-is_window c =
-    let a = c.args in
-    let old = written (row_kept a.m (signed_scalar a.scalar.now a.sign)) a.limits a.scalar.now a.digits.now (size (goal.at.returns-then-is_window c).Then-is_scalar) (window (goal.at.returns-then-is_window c).Then-is_window) c.write_signed_row.result c.write_signed_row.new.out
-    (omega (arith, c.if-digits-scalar.false)) c.write_signed_row.ensures.answer c.write_signed_row.ensures.buffer in record { answer = old.0; buffer = old.1.0; promised = old.1.1.0; question = old.1.1.1 }
-
-pub returns-then-is_scalar : goal.returns-then-is_scalar
-returns-then-is_scalar c =
-    let a = c.args in
-    let old = bad_window (row_kept a.m (signed_scalar a.scalar.now a.sign)) a.limits a.scalar.now a.digits.now (size (goal.at.returns-then-is_scalar c).Then-is_scalar) (sym c.is_window.ensures ∙ c.if-is_window.false) in record { answer = old.0; buffer = old.1.0; promised = old.1.1.0; question = old.1.1.1 }
 
 pub returns : goal.returns
 returns c =
-    let a = c.args in
-    let old = bad_scalar (row_kept a.m (signed_scalar a.scalar.now a.sign)) a.limits a.scalar.now a.digits.now (sym c.is_scalar.ensures ∙ c.if-is_scalar.false) in record { answer = old.0; buffer = old.1.0; promised = old.1.1.0; question = old.1.1.1 }
+    let s = c.args.scalar.bytes.now in
+    let sign = c.args.scalar.sign in
+    let buffer = c.args.digits.now in
+    let m = c.in_ok-window.window in
+    let (same, window) = c.in_ok-window.ensures in
+    let is : is_window m ≡ true = rw same window in
+    let one : 1 ≤ m = omega (arith, (window_parts m is).0) in
+    let row = c.write_row-written in
+    let old = written (row_kept m (signed_scalar s sign)) c.args.limits s buffer c.in_ok-check.ensures is (Ok row.result) c.give_sign.new.row (omega (arith, leb-true _ _ c.in_ok-check_room.ensures))
+    (ap Ok row.ensures.answer ∙ wrote_signed_row s sign m one)
+    (c.give_sign.ensures ∙ ap (signed_below sign row.result.length) row.ensures.buffer ∙ signed_row s sign m one row.result.length buffer (ap (λ (w : Written). w.length) row.ensures.answer))
+    in
+    rw (← same) record { answer = old.0; buffer = old.1.0; promised = old.1.1.0; question = old.1.1.1 }

@@ -13,14 +13,14 @@ use Rattle.recode.proofs.LowBits.{all_zeros}
 use Rattle.recode.proofs.LowRemainder.{Without, still}
 use Rattle.recode.proofs.MachineDigit.{cast_fits, as_byte, less_asks, less_says}
 use Rattle.recode.proofs.RowLoop.{Given, State, begin, refill, finish, skipped, inside, small, halved, stored, reached, few}
-use Rattle.recode.proofs.rows.write_digits.Goals.{After-byte_of, After-digit_of-digit, After-filled-full, After-new-low, After-shifted-low, After-shifted-odd, After-struct_known-then-full-eq0-1, At-loop-full, Else-ended, Else-odd-lt6}
+use Rattle.recode.proofs.rows.write_digits.Goals.{After-byte_of, After-digit_of-digit, After-filled-full, After-new-low, After-shifted-low, After-shifted-odd, After-struct_known-then-full-eq0-1, At-loop-rule, Else-ended, Else-odd-lt6}
 use Rattle.recode.proofs.rows.write_digits.Goals as goal
 
-given : (c : After-new-low) → Given c.args.bytes.now c.args.m c.args.out.now
+given : (c : After-new-low) → Given c.args.bytes.now c.args.rule.m c.args.out.now
 given c =
     record {
-      one = c.requires.window.0;
-      most = c.requires.window.1.0;
+      one = c.args.rule.some;
+      most = c.args.rule.most;
       are_bytes = λ i. (c.type_inv.bytes i).fits;
       in_use = c.requires.trimmed;
       cleared = c.requires.room.0;
@@ -28,17 +28,17 @@ given c =
     }
 
 -- the state at a place of a turn
-abbrev Standing : At-loop-full → Low → ℕ → Type 0
+abbrev Standing : At-loop-rule → Low → ℕ → Type 0
 Standing c s place =
-    let a = c.args in State a.bytes.now a.m a.out.now c.loop-full.out s place c.loop-full.weight
+    let a = c.args in State a.bytes.now a.rule.m a.out.now c.loop-rule.out s place c.loop-rule.weight
 
 -- once the low bits are filled up
-full : (c : After-filled-full) → Standing (goal.at.ended-requires c).At-loop-full c.filled-full.result c.loop-full.place
+full : (c : After-filled-full) → Standing (goal.at.ended-requires c).At-loop-rule c.filled-full.result c.loop-rule.place
 full c =
-    refill (given (goal.at.ended-requires c).After-new-low) c.loop-full.low c.filled-full.result c.filled-full.ensures.0 c.filled-full.ensures.1.0 c.loop-full.invariant
+    refill (given (goal.at.ended-requires c).After-new-low) c.loop-rule.low c.filled-full.result c.filled-full.ensures.0 c.loop-rule.invariant
 
-pub loop-full-init : goal.loop-full-init
-loop-full-init c = begin (given c) c.new-low.result c.new-low.ensures
+pub loop-rule-init : goal.loop-rule-init
+loop-rule-init c = begin (given c) c.new-low.result c.new-low.ensures
 
 pub ended-requires : goal.ended-requires
 ended-requires c = search rules
@@ -58,55 +58,55 @@ no-bit : (c : After-struct_known-then-full-eq0-1) → let s = c.filled-full.resu
 no-bit c = (all_zeros c.filled-full.result.bits c.filled-full.result.low c.if-full-eq0.true).1.0
 
 module _ (c : After-shifted-low) where
-  emptied : Standing (goal.at.loop-full-smaller-then-full-eq0 c).At-loop-full c.shifted-low.result (c.loop-full.place + c.filled-full.result.bits)
+  emptied : Standing (goal.at.loop-rule-smaller-then-full-eq0 c).At-loop-rule c.shifted-low.result (c.loop-rule.place + c.filled-full.result.bits)
   emptied =
-      skipped (given (goal.at.loop-full-smaller-then-full-eq0 c).After-new-low) c.filled-full.result (going (goal.at.loop-full-smaller-then-full-eq0 c).Else-ended) (full (goal.at.loop-full-smaller-then-full-eq0 c).After-filled-full) c.shifted-low.result c.filled-full.result.bits
-      (record { zeros = no-bit (goal.at.loop-full-smaller-then-full-eq0 c).After-struct_known-then-full-eq0-1; shifted = c.shifted-low.ensures })
+      skipped (given (goal.at.loop-rule-smaller-then-full-eq0 c).After-new-low) c.filled-full.result (going (goal.at.loop-rule-smaller-then-full-eq0 c).Else-ended) (full (goal.at.loop-rule-smaller-then-full-eq0 c).After-filled-full) c.shifted-low.result c.filled-full.result.bits
+      (record { zeros = no-bit (goal.at.loop-rule-smaller-then-full-eq0 c).After-struct_known-then-full-eq0-1; shifted = c.shifted-low.ensures })
 
-pub loop-full-smaller-then-full-eq0 : goal.loop-full-smaller-then-full-eq0
-loop-full-smaller-then-full-eq0 c =
-    omega (arith, reached (given (goal.at.loop-full-smaller-then-full-eq0 c).After-new-low) c.shifted-low.result (emptied c), c.filled-full.ensures.1.1)
+pub loop-rule-smaller-then-full-eq0 : goal.loop-rule-smaller-then-full-eq0
+loop-rule-smaller-then-full-eq0 c =
+    omega (arith, reached (given (goal.at.loop-rule-smaller-then-full-eq0 c).After-new-low) c.shifted-low.result (emptied c), c.filled-full.ensures.1)
 
-pub loop-full-preserved-then-full-eq0 : goal.loop-full-preserved-then-full-eq0
-loop-full-preserved-then-full-eq0 c = emptied c
+pub loop-rule-preserved-then-full-eq0 : goal.loop-rule-preserved-then-full-eq0
+loop-rule-preserved-then-full-eq0 c = emptied c
 
 module _ (c : After-shifted-odd) where
   without : Without c.filled-full.result c.shifted-odd.result c.zeros-zeros.result
   without = record { zeros = c.zeros-zeros.ensures.1.0; shifted = c.shifted-odd.ensures }
 
-  odd : Standing (goal.at.overflow_cast-place-in-loop-full c).At-loop-full c.shifted-odd.result (c.loop-full.place + c.zeros-zeros.result)
+  odd : Standing (goal.at.overflow_cast-place-in-loop-rule c).At-loop-rule c.shifted-odd.result (c.loop-rule.place + c.zeros-zeros.result)
   odd =
-      skipped (given (goal.at.overflow_cast-place-in-loop-full c).After-new-low) c.filled-full.result (going (goal.at.overflow_cast-place-in-loop-full c).Else-ended) (full (goal.at.overflow_cast-place-in-loop-full c).After-filled-full) c.shifted-odd.result
+      skipped (given (goal.at.overflow_cast-place-in-loop-rule c).After-new-low) c.filled-full.result (going (goal.at.overflow_cast-place-in-loop-rule c).Else-ended) (full (goal.at.overflow_cast-place-in-loop-rule c).After-filled-full) c.shifted-odd.result
       c.zeros-zeros.result without
 
-  going_on : Left (goal.at.overflow_cast-place-in-loop-full c).After-filled-full c.shifted-odd.result
-  going_on = still without (length c.args.bytes.now) (going (goal.at.overflow_cast-place-in-loop-full c).Else-ended)
+  going_on : Left (goal.at.overflow_cast-place-in-loop-rule c).After-filled-full c.shifted-odd.result
+  going_on = still without (length c.args.bytes.now) (going (goal.at.overflow_cast-place-in-loop-rule c).Else-ended)
 
-  within : c.loop-full.place + c.zeros-zeros.result ≤ length c.loop-full.out
-  within = reached (given (goal.at.overflow_cast-place-in-loop-full c).After-new-low) c.shifted-odd.result odd
+  within : c.loop-rule.place + c.zeros-zeros.result ≤ length c.loop-rule.out
+  within = reached (given (goal.at.overflow_cast-place-in-loop-rule c).After-new-low) c.shifted-odd.result odd
 
-pub overflow_cast-place-in-loop-full : goal.overflow_cast-place-in-loop-full
-overflow_cast-place-in-loop-full c = search rules
+pub overflow_cast-place-in-loop-rule : goal.overflow_cast-place-in-loop-rule
+overflow_cast-place-in-loop-rule c = search rules
 
-pub loop-full-smaller-then-odd-lt6 : goal.loop-full-smaller-then-odd-lt6
-loop-full-smaller-then-odd-lt6 c =
-    omega (arith, within (goal.at.loop-full-smaller-then-odd-lt6 c).After-shifted-odd, c.if-odd-lt6.true, c.shifted-odd.ensures.1.1.0, c.filled-full.ensures.1.1)
+pub loop-rule-smaller-then-odd-lt6 : goal.loop-rule-smaller-then-odd-lt6
+loop-rule-smaller-then-odd-lt6 c =
+    omega (arith, within (goal.at.loop-rule-smaller-then-odd-lt6 c).After-shifted-odd, c.if-odd-lt6.true, c.shifted-odd.ensures.1.0, c.filled-full.ensures.1)
 
-pub loop-full-preserved-then-odd-lt6 : goal.loop-full-preserved-then-odd-lt6
-loop-full-preserved-then-odd-lt6 c = odd (goal.at.loop-full-preserved-then-odd-lt6 c).After-shifted-odd
+pub loop-rule-preserved-then-odd-lt6 : goal.loop-rule-preserved-then-odd-lt6
+loop-rule-preserved-then-odd-lt6 c = odd (goal.at.loop-rule-preserved-then-odd-lt6 c).After-shifted-odd
 
 -- and the remainder is odd
 parity : (c : Else-odd-lt6) → c.shifted-odd.result.low % 2 ≡ 1
 parity c =
-    omega (arith, c.zeros-zeros.ensures.1.1 (omega (arith, c.if-odd-lt6.false, c.shifted-odd.ensures.1.1.0)), c.shifted-odd.ensures.1.1.1)
+    omega (arith, c.zeros-zeros.ensures.1.1 (omega (arith, c.if-odd-lt6.false, c.shifted-odd.ensures.1.0)), c.shifted-odd.ensures.1.1)
 
 module _ (c : After-digit_of-digit) where
   enough : 6 ≤ c.shifted-odd.result.bits
   enough = omega (arith, c.if-odd-lt6.false)
 
-  low_digit : c.digit_of-digit.result ≡ digit c.args.m (pos (c.shifted-odd.result.low % 64))
+  low_digit : c.digit_of-digit.result ≡ digit c.args.rule.m (pos (c.shifted-odd.result.low % 64))
   low_digit =
-      c.digit_of-digit.ensures ∙ ap (λ (x : ℕ). digit c.args.m (pos x)) c.lowest.ensures
+      c.digit_of-digit.ensures ∙ ap (λ (x : ℕ). digit c.args.rule.m (pos x)) c.lowest.ensures
 
   tiny : nat_abs c.digit_of-digit.result ≤ 31
   tiny =
@@ -119,21 +119,21 @@ pub bounds-out-place : goal.bounds-out-place
 bounds-out-place c =
     inside (given (goal.at.bounds-out-place c).After-new-low) c.shifted-odd.result (going_on (goal.at.bounds-out-place c).After-shifted-odd) (odd (goal.at.bounds-out-place c).After-shifted-odd)
 
-pub less-next-requires : goal.less-next-requires
-less-next-requires c =
-    less_asks c.digit_of-digit.result (tiny (goal.at.less-next-requires c).After-digit_of-digit) c.shifted-odd.result c.shifted-odd.ensures.0 (omega (arith, enough (goal.at.less-next-requires c).After-digit_of-digit))
-    (halved (given (goal.at.less-next-requires c).After-new-low) c.shifted-odd.result (going_on (goal.at.less-next-requires c).After-shifted-odd) (odd (goal.at.less-next-requires c).After-shifted-odd) (enough (goal.at.less-next-requires c).After-digit_of-digit) c.digit_of-digit.result (low_digit (goal.at.less-next-requires c).After-digit_of-digit))
+pub less-low-requires : goal.less-low-requires
+less-low-requires c =
+    less_asks c.digit_of-digit.result (tiny (goal.at.less-low-requires c).After-digit_of-digit) c.shifted-odd.result (omega (arith, enough (goal.at.less-low-requires c).After-digit_of-digit))
+    (halved (given (goal.at.less-low-requires c).After-new-low) c.shifted-odd.result (going_on (goal.at.less-low-requires c).After-shifted-odd) (odd (goal.at.less-low-requires c).After-shifted-odd) (enough (goal.at.less-low-requires c).After-digit_of-digit) c.digit_of-digit.result (low_digit (goal.at.less-low-requires c).After-digit_of-digit))
 
-pub loop-full-preserved : goal.loop-full-preserved
-loop-full-preserved c =
-    stored (given (goal.at.loop-full-preserved c).After-new-low) c.shifted-odd.result (going_on (goal.at.loop-full-preserved c).After-shifted-odd) (odd (goal.at.loop-full-preserved c).After-shifted-odd) (enough (goal.at.loop-full-preserved c).After-digit_of-digit) c.digit_of-digit.result (low_digit (goal.at.loop-full-preserved c).After-digit_of-digit)
-    c.less-next.result c.byte_of.result (parity (goal.at.loop-full-preserved c).Else-odd-lt6)
-    (c.byte_of.ensures ∙ ap byte_of (as_byte c.digit_of-digit.result (tiny (goal.at.loop-full-preserved c).After-digit_of-digit)))
-    (less_says c.digit_of-digit.result (tiny (goal.at.loop-full-preserved c).After-digit_of-digit) c.shifted-odd.result c.less-next.result c.less-next.ensures)
+pub loop-rule-preserved : goal.loop-rule-preserved
+loop-rule-preserved c =
+    stored (given (goal.at.loop-rule-preserved c).After-new-low) c.shifted-odd.result (going_on (goal.at.loop-rule-preserved c).After-shifted-odd) (odd (goal.at.loop-rule-preserved c).After-shifted-odd) (enough (goal.at.loop-rule-preserved c).After-digit_of-digit) c.digit_of-digit.result (low_digit (goal.at.loop-rule-preserved c).After-digit_of-digit)
+    c.less-low.result c.byte_of.result (parity (goal.at.loop-rule-preserved c).Else-odd-lt6)
+    (c.byte_of.ensures ∙ ap byte_of (as_byte c.digit_of-digit.result (tiny (goal.at.loop-rule-preserved c).After-digit_of-digit)))
+    (less_says c.digit_of-digit.result (tiny (goal.at.loop-rule-preserved c).After-digit_of-digit) c.shifted-odd.result c.less-low.result c.less-low.ensures)
 
 pub overflow_add-weight : goal.overflow_add-weight
 overflow_add-weight c =
-    omega (arith, bounds-out-place (goal.at.overflow_add-weight c).After-byte_of, few (given (goal.at.overflow_add-weight c).After-new-low) c.loop-full.low c.loop-full.invariant, c.loop-full.invariant.1.0, c.well_formed)
+    omega (arith, bounds-out-place (goal.at.overflow_add-weight c).After-byte_of, few (given (goal.at.overflow_add-weight c).After-new-low) c.loop-rule.low c.loop-rule.invariant, c.loop-rule.invariant.0, c.well_formed)
 
-pub loop-full-smaller : goal.loop-full-smaller
-loop-full-smaller c = simp length-set (omega (arith, bounds-out-place (goal.at.loop-full-smaller c).After-byte_of))
+pub loop-rule-smaller : goal.loop-rule-smaller
+loop-rule-smaller c = simp length-set (omega (arith, bounds-out-place (goal.at.loop-rule-smaller c).After-byte_of))

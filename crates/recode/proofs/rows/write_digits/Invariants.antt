@@ -5,8 +5,8 @@ use lib.ListN.{length}
 use Rattle.recode.proofs.RowLoop.{State}
 use Rattle.recode.proofs.rows.write_digits.Given as goal
 
-abbrev pub invariant-loop-full : goal.invariant-loop-full
-invariant-loop-full l = State l.bytes l.m l.initial.out l.out l.low l.place l.weight
+abbrev pub invariant-loop-rule : goal.invariant-loop-rule
+invariant-loop-rule l = State l.bytes l.rule.m l.initial.out l.out l.low l.place l.weight
 
-abbrev pub decreases-loop-full : goal.decreases-loop-full
-decreases-loop-full l = length l.out - l.place
+abbrev pub decreases-loop-rule : goal.decreases-loop-rule
+decreases-loop-rule l = length l.out - l.place

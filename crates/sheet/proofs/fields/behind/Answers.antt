@@ -17,5 +17,5 @@ module _ (c : After-find-n) where
 pub returns-then-n-rest : goal.returns-then-n-rest
 returns-then-n-rest c = behind_found c.args.s.now c.args.at (first (goal.at.returns-then-n-rest c).After-find-n) (omega (arith, length-drop c.args.at c.args.s.now)) c.requires
 
-pub returns : goal.returns
-returns c = behind_none c.args.s.now c.args.at (first (goal.at.returns c).After-find-n) (omega (arith, length-drop c.args.at c.args.s.now))
+pub returns-else-n-rest : goal.returns-else-n-rest
+returns-else-n-rest c = behind_none c.args.s.now c.args.at (first (goal.at.returns-else-n-rest c).After-find-n) (omega (arith, length-drop c.args.at c.args.s.now))

@@ -1,11 +1,17 @@
--- `find` meets its contract. The loop's invariant: the bytes below i are others.
-use native.Mathlib.Omega.{arith}
-use Rattle.sheet.specs.Every.{empty}
-use Rattle.sheet.proofs.CutTurns.{lacks_turn}
+-- `find` meets its contract.
+use Rattle.std.specs.Prelude.{◌≡◌, List, ℕ, length, Some, None}
+use Rattle.std.specs.Option.{unwrap_or}
+use Rattle.std.specs.declared.option.Option as declared
+use Rattle.std.proofs.Common.{rules, refl, sym, subst}
+use Rattle.sheet.specs.Spelling.Field.{First}
+use Rattle.sheet.proofs.CutTurns.{first_found, first_none}
 use Rattle.sheet.proofs.fields.find.Goals as goal
 
-pub loop-i-init : goal.loop-i-init
-loop-i-init c = (omega arith, empty)
+either : {b : ℕ} (s : List ℕ) (o : declared.Option ℕ) → ((i : ℕ) → o ≡ Some i → First b s i) → (o ≡ None → First b s (length s)) → First b s (unwrap_or o (length s))
+either s (Some i) h g = h i refl
+either s None h g = g refl
 
-pub loop-i-preserved : goal.loop-i-preserved
-loop-i-preserved c = (omega arith, lacks_turn _ c.args.s.now c.loop-i.i (omega arith) c.if-s-i.false c.loop-i.invariant.1)
+pub returns : goal.returns
+returns c =
+    subst (First _ _) (sym c.unwrap_or.ensures)
+    (either c.args.s.now c.position.result (λ i e. first_found c.args.s.now (search rules) (search rules) (search rules)) (λ e. first_none c.args.s.now (search rules)))

@@ -3,6 +3,7 @@
 use native.Mathlib.Omega.{arith}
 use mathlib.Core.Path.{◌≡◌, sym, ap, ◌∙◌}
 use mathlib.Core.List.{[]}
+use mathlib.Core.Option.{some}
 use Prim.Native.Nat.{◌≤◌}
 use lib.ListN.{drop, drop_of_length-le}
 use Rattle.digits.specs.declared.limits.Limits.{Limits}
@@ -45,13 +46,13 @@ pub loop-at-preserved : goal.loop-at-preserved
 loop-at-preserved c =
     let found = c.line_at-taken.ensures.0 (omega arith) in
     let t = found card (omega arith) in
-    let f = c.after-next.ensures t.meant t.is in (
+    let f = c.after-state.ensures t.meant t.is in (
       t.within,
       counted_turn c.loop-at.invariant.1 f (omega (arith, f.line, c.loop-at.invariant.2, t.later, t.within, c.requires.start.0)),
       omega (arith, f.line, c.loop-at.invariant.2, t.later),
       omega (arith, c.loop-at.invariant.3, f.places, places_most c.loop-at.state.places t.meant),
       λ limits h. let t = found limits h in
-          let f = c.after-next.ensures t.meant t.is in
+          let f = c.after-state.ensures t.meant t.is in
           let r = c.loop-at.invariant.4 limits h in (
             going_turn (going_same t.rest r.0) f,
             running_turn r.1 t.rest (c.add_line.ensures.first t.meant t.is) t.later f.places,
@@ -59,15 +60,15 @@ loop-at-preserved c =
           ),
     )
 
-pub returns-in-loop-at : goal.returns-in-loop-at
-returns-in-loop-at c =
-    record {
-      scanned = λ limits h. let t = c.line_at-taken.ensures.0 (omega arith) limits h in
-          sym (c.loop-at.invariant.4 limits h).0.misplaced ∙ ap (misplaced_from c.loop-at.state) t.rest
-          ∙ out_of_place c.loop-at.state.phase t.meant c.loop-at.state.line _ (ap (is_placed c.loop-at.state.phase) (sym t.is) ∙ sym c.is_placed.ensures ∙ c.if-is_placed.false);
-      first = λ limits h. tt;
-      second = λ limits h. tt;
-    }
+pub returns-then-not-is_placed-clause-scanned : goal.returns-then-not-is_placed-clause-scanned
+returns-then-not-is_placed-clause-scanned c = λ limits h. let t = c.line_at-taken.ensures.0 (omega arith) limits h in
+    let e = c.at.ensures in (
+      e.0,
+      sym (c.loop-at.invariant.4 limits h).0.misplaced
+          ∙ ap (misplaced_from c.loop-at.state) t.rest
+          ∙ out_of_place c.loop-at.state.phase t.meant c.loop-at.state.line _ (ap (is_placed c.loop-at.state.phase) (sym t.is) ∙ sym c.is_placed.ensures ∙ c.if-not-is_placed.true)
+          ∙ ap some (sym e.1),
+    )
 
 pub returns : goal.returns
 returns c =

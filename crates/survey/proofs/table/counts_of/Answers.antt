@@ -12,8 +12,8 @@ returns-then-is_double c = (
       record { additions = λ ls. table_adds_none x ls b; doublings = λ ls. table_doubles x ls b },
 )
 
-pub returns : goal.returns
-returns c = (
+pub returns-else-is_double : goal.returns-else-is_double
+returns-else-is_double c = (
   omega arith,
   λ x e.
       let b = sym (c.is_double.ensures x e) ∙ c.if-is_double.false in

@@ -1,6 +1,6 @@
 -- What the calls for a sheet answer and leave keeps the promise under limits that are enough, whatever was asked, and the answer's number is that of the first question
 -- missed; for plan I from any columns that make the scalars. From the laws of the sheet of columns.
-use Rattle.std.specs.Prelude.{◌≡◌, ◌&&◌, ℕ, ◌^◌, ◌<◌, ℤ, nat_abs, length, drop}
+use Rattle.std.specs.Prelude.{◌≡◌, ◌&&◌, ℕ, ◌^◌, ◌<◌, ℤ, nat_abs, length, drop, Err}
 use Rattle.std.proofs.Math.Path.{refl, subst}
 use Rattle.std.proofs.Common.{sym, ap, ◌∙◌}
 use Rattle.std.proofs.Math.Bool.{Bool, true, false, cond}
@@ -24,12 +24,10 @@ use Rattle.written.proofs.Laws.Promise.{sheet_accepted, sheet_slots_lem, sheet_c
 use Rattle.written.specs.Valid.{Valid, for_j}
 use Rattle.written.specs.Written.{digits, sheet_of, additions_of}
 use Rattle.written.specs.Written.Columns.{digits_make}
-use Rattle.writer.specs.declared.answer.Sheet.{Sheet}
-use Rattle.writer.specs.declared.answer.Sheet.TheVariants.{BadScalar, BadWindow, NoRoom}
-use Rattle.writer.specs.Call.{number, additions, roomy, wrote_columns, wrote, left, Promised, SheetPromised, j_question, j_answer, j_buffer, i_question, columns_answer, columns_buffer, i_answer, i_buffer, i_down_answer, i_down_buffer}
-use Rattle.writer.specs.Rows.{columns_by}
+use Rattle.digits.specs.declared.missed.Missed.TheVariants.{BadScalar, BadWindow, NoRoom}
+use Rattle.writer.specs.Call.{SheetAnswer, number, additions, roomy, wrote_columns, wrote, left, Promised, SheetPromised, j_question, j_answer, j_buffer, i_question, columns_answer, columns_buffer, i_answer, i_buffer, i_down_answer, i_down_buffer}
+use Rattle.writer.specs.Rows.{Up, Down, columns_by}
 use Rattle.writer.proofs.Laws.Rows.Made.{columns_make, columns_cost}
-use Rattle.writer.specs.declared.rows.Rows.TheVariants.{Up, Down}
 use Rattle.writer.specs.Call.Met.{windows_valid}
 use Rattle.writer.specs.Call.Kept.{Columned}
 
@@ -40,8 +38,8 @@ module _ (limits : Limits) (enough : Enough limits) where
 
   module _ (p : Plan) (cs : List Column) (k l : ℤ) (buffer : List ℕ) where
     -- the answer by room alone
-    roomed : Bool → Sheet
-    roomed c = cond c (wrote_columns p cs k l) NoRoom
+    roomed : Bool → SheetAnswer
+    roomed c = cond c (wrote_columns p cs k l) (Err NoRoom)
 
     room_promised : (c : Bool) → Valid p → Makes p k l cs → Small k l → SheetPromised limits p k l (roomed c) (left (roomed c) (sheet_of p cs k l) buffer)
     unfolding roomed
@@ -75,8 +73,8 @@ module _ (limits : Limits) (enough : Enough limits) where
         cs : List Column
         cs = digits J x y
 
-        answer : Bool → Sheet
-        answer a = cond a (roomed J cs x y buffer (roomy limits (length buffer))) BadScalar
+        answer : Bool → SheetAnswer
+        answer a = cond a (roomed J cs x y buffer (roomy limits (length buffer))) (Err BadScalar)
 
         go : (a : Bool) → (a ≡ true → Small x y) → SheetPromised limits J x y (answer a) (left (answer a) (sheet_of J cs x y) buffer)
         go true h = room_promised J cs x y buffer (roomy limits (length buffer)) for_j (digits_make x y for_j) (h refl)
@@ -88,8 +86,8 @@ module _ (limits : Limits) (enough : Enough limits) where
     unfolding roomed
     columns_promised m1 m2 cs makes = go (sized limits k && sized limits l) (is_window m1 && is_window m2) small (windows_valid m1 m2) makes
       where
-        answer : Bool → Bool → Sheet
-        answer a b = cond a (cond b (roomed (I m1 m2) cs x y buffer (roomy limits (length buffer))) BadWindow) BadScalar
+        answer : Bool → Bool → SheetAnswer
+        answer a b = cond a (cond b (roomed (I m1 m2) cs x y buffer (roomy limits (length buffer))) (Err BadWindow)) (Err BadScalar)
 
         go : (a b : Bool) → (a ≡ true → Small x y) → (b ≡ true → Valid (I m1 m2)) → (b ≡ true → Makes (I m1 m2) x y cs)
             → SheetPromised limits (I m1 m2) x y (answer a b) (left (answer a b) (sheet_of (I m1 m2) cs x y) buffer)
@@ -102,8 +100,8 @@ module _ (limits : Limits) (enough : Enough limits) where
         → Columned limits cs (columns_answer limits k k_sign l l_sign m1 m2 cs (length buffer)) (columns_buffer limits k k_sign l l_sign m1 m2 cs buffer)
     columns_stand m1 m2 cs makes = go (sized limits k && sized limits l) (is_window m1 && is_window m2) (roomy limits (length buffer)) small (windows_valid m1 m2) makes
       where
-        answer : Bool → Bool → Bool → Sheet
-        answer a b c = cond a (cond b (cond c (wrote_columns (I m1 m2) cs x y) NoRoom) BadWindow) BadScalar
+        answer : Bool → Bool → Bool → SheetAnswer
+        answer a b c = cond a (cond b (cond c (wrote_columns (I m1 m2) cs x y) (Err NoRoom)) (Err BadWindow)) (Err BadScalar)
 
         go : (a b c : Bool) → (a ≡ true → Small x y) → (b ≡ true → Valid (I m1 m2)) → (b ≡ true → Makes (I m1 m2) x y cs)
             → Columned limits cs (answer a b c) (left (answer a b c) (sheet_of (I m1 m2) cs x y) buffer)
@@ -137,7 +135,7 @@ module _ (k : List ℕ) (k_sign : ℕ) (l : List ℕ) (l_sign : ℕ) where
   unfolding j_answer
   j_question_lem limits room = go (sized limits k) (sized limits l) (roomy limits room)
     where
-      go : (a b c : Bool) → number (cond (a && b) (cond c (wrote J (signed_scalar k k_sign) (signed_scalar l l_sign)) NoRoom) BadScalar) ≡ cond a (cond b (cond c 0 3) 1) 1
+      go : (a b c : Bool) → number (cond (a && b) (cond c (wrote J (signed_scalar k k_sign) (signed_scalar l l_sign)) (Err NoRoom)) (Err BadScalar)) ≡ cond a (cond b (cond c 0 3) 1) 1
       go true true true = refl
       go true true false = refl
       go true false c = refl
@@ -148,7 +146,7 @@ module _ (k : List ℕ) (k_sign : ℕ) (l : List ℕ) (l_sign : ℕ) where
   columns_question limits m1 m2 cs room = go (sized limits k) (sized limits l) (is_window m1) (is_window m2) (roomy limits room)
     where
       go : (a b c d e : Bool)
-          → number (cond (a && b) (cond (c && d) (cond e (wrote_columns (I m1 m2) cs (signed_scalar k k_sign) (signed_scalar l l_sign)) NoRoom) BadWindow) BadScalar) ≡ cond a (cond b (cond c (cond d (cond e 0 3) 2) 2) 1) 1
+          → number (cond (a && b) (cond (c && d) (cond e (wrote_columns (I m1 m2) cs (signed_scalar k k_sign) (signed_scalar l l_sign)) (Err NoRoom)) (Err BadWindow)) (Err BadScalar)) ≡ cond a (cond b (cond c (cond d (cond e 0 3) 2) 2) 1) 1
       go true true true true true = refl
       go true true true true false = refl
       go true true true false e = refl
@@ -173,8 +171,8 @@ i_down_additions limits k k_sign l l_sign m1 m2 room =
     y : ℤ
     y = signed_scalar l l_sign
 
-    answer : List Column → Bool → Bool → Bool → Sheet
-    answer cs a b c = cond a (cond b (cond c (wrote_columns (I m1 m2) cs x y) NoRoom) BadWindow) BadScalar
+    answer : List Column → Bool → Bool → Bool → SheetAnswer
+    answer cs a b c = cond a (cond b (cond c (wrote_columns (I m1 m2) cs x y) (Err NoRoom)) (Err BadWindow)) (Err BadScalar)
 
     go : (a b c : Bool) → (b ≡ true → additions_of (I m1 m2) (columns_by Down m1 m2 x y) x y ≡ additions_of (I m1 m2) (columns_by Up m1 m2 x y) x y)
         → additions (answer (columns_by Down m1 m2 x y) a b c) ≡ additions (answer (columns_by Up m1 m2 x y) a b c)

@@ -15,9 +15,7 @@ use Rattle.written.specs.Makes.{Makes}
 use Rattle.written.proofs.Laws.Promise.{sheet_cost}
 use Rattle.written.specs.Written.{additions_of}
 use Rattle.written.specs.Written.Columns.{rows_make, paired_weight}
-use Rattle.writer.specs.declared.rows.Rows.{Rows}
-use Rattle.writer.specs.declared.rows.Rows.TheVariants.{Up, Down}
-use Rattle.writer.specs.Rows.{row_by, columns_by}
+use Rattle.writer.specs.Rows.{Rows, Up, Down, row_by, columns_by}
 use Rattle.writer.specs.Rows.Made.{RuleBy}
 
 -- a row of either kind keeps what is promised

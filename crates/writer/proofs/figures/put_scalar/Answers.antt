@@ -7,23 +7,21 @@ use Rattle.sheet.specs.Numeral.Read.{numeral_some}
 use Rattle.writer.proofs.Puts.{put_length}
 use Rattle.writer.proofs.figures.put_scalar.Goals as goal
 
-pub loop-i-init : goal.loop-i-init
-loop-i-init c = let a = c.args in scan_start a.bytes.now a.out.now a.at
+pub loop-byte-init : goal.loop-byte-init
+loop-byte-init c = let a = c.args in scan_start a.bytes.now a.out.now a.at
 
-pub put_figures-behind-requires : goal.put_figures-behind-requires
-put_figures-behind-requires c = (
-  (c.type_inv.bytes c.loop-i.i).fits,
-  scan_room c.args.bytes.now c.args.out.now c.args.at c.loop-i.invariant (λ i. (c.type_inv.bytes i).fits) c.loop-i-test.true c.requires,
-)
+pub put_figures-next-requires : goal.put_figures-next-requires
+put_figures-next-requires c =
+    scan_room c.args.bytes.now c.args.out.now c.args.at c.loop-byte.invariant (λ i. (c.type_inv.bytes i).fits) c.loop-byte-test.true c.requires
 
-pub loop-i-preserved : goal.loop-i-preserved
-loop-i-preserved c =
-    scan_turn c.args.bytes.now c.args.out.now c.args.at c.loop-i.invariant (λ i. (c.type_inv.bytes i).fits) c.loop-i-test.true c.put_figures-behind.ensures
+pub loop-byte-preserved : goal.loop-byte-preserved
+loop-byte-preserved c =
+    scan_turn c.args.bytes.now c.args.out.now c.args.at c.loop-byte.invariant (λ i. (c.type_inv.bytes i).fits) c.loop-byte-test.true c.put_figures-next.ensures
 
 pub put_byte-requires : goal.put_byte-requires
 put_byte-requires c =
-    record { fits = omega (arith, c.requires.fits, put_length c.loop-i.invariant.1, numeral_some 16 (omega arith) (omega arith) (scalar c.args.bytes.now)) }
+    record { fits = omega (arith, c.requires.fits, put_length c.loop-byte.invariant.1, numeral_some 16 (omega arith) (omega arith) (scalar c.args.bytes.now)) }
 
 pub returns-then-next-at : goal.returns-then-next-at
 returns-then-next-at c =
-    scan_zero c.args.bytes.now c.args.out.now c.args.at c.loop-i.invariant c.loop-i-test.false c.if-next-at.true c.put_byte.ensures
+    scan_zero c.args.bytes.now c.args.out.now c.args.at c.loop-byte.invariant c.loop-byte-test.false c.if-next-at.true c.put_byte.ensures

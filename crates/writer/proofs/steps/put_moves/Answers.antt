@@ -8,13 +8,13 @@ pub put_letter-begun-requires : goal.put_letter-begun-requires
 put_letter-begun-requires c =
     double_room c.args.plan c.args.p.now c.args.q.now c.args.top c.args.out.now c.args.at c.loop-i.invariant c.requires.1 (omega (arith, c.loop-i-test.true))
 
-pub put_steps-behind-requires : goal.put_steps-behind-requires
-put_steps-behind-requires c =
+pub put_steps-next-requires : goal.put_steps-next-requires
+put_steps-next-requires c =
     steps_room c.args.plan c.args.p.now c.args.q.now c.args.top c.args.out.now c.args.at c.loop-i.invariant c.requires.1 (omega (arith, c.loop-i-test.true)) c.put_letter-begun.ensures
 
 pub loop-i-preserved : goal.loop-i-preserved
 loop-i-preserved c =
-    move_turn c.args.plan c.args.p.now c.args.q.now c.args.top c.args.out.now c.args.at c.loop-i.invariant c.requires.1 (omega (arith, c.loop-i-test.true)) c.put_letter-begun.ensures c.put_steps-behind.ensures
+    move_turn c.args.plan c.args.p.now c.args.q.now c.args.top c.args.out.now c.args.at c.loop-i.invariant c.requires.1 (omega (arith, c.loop-i-test.true)) c.put_letter-begun.ensures c.put_steps-next.ensures
 
 pub returns : goal.returns
 returns c =

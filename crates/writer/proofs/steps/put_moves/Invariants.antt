@@ -5,6 +5,3 @@ use Rattle.writer.proofs.steps.put_moves.Given as goal
 
 abbrev pub invariant-loop-i : goal.invariant-loop-i
 invariant-loop-i l = Moving l.plan l.p l.q l.top l.initial.out l.out l.at l.next l.i
-
-abbrev pub decreases-loop-i : goal.decreases-loop-i
-decreases-loop-i l = l.i

@@ -4,7 +4,7 @@ use Rattle.reader.proofs.TextTurns.{Turn}
 use Rattle.reader.proofs.text.Text.with_decimal.Given as goal
 
 abbrev pub invariant-loop-rest : goal.invariant-loop-rest
-invariant-loop-rest l = (l.initial.text.at ≤ 64) × (20 ≤ l.initial.text.at) × Turn l.n l.initial.text l.text l.rest
+invariant-loop-rest l = (20 ≤ l.initial.self.at) × Turn l.n l.initial.self l.self l.rest
 
 abbrev pub decreases-loop-rest : goal.decreases-loop-rest
 decreases-loop-rest l = l.rest

@@ -8,28 +8,31 @@ use Rattle.recode.specs.Body.Remainder.{remaining}
 use Rattle.recode.proofs.LowBits.{shifted_word, more_bits, word_bound, next_word, no_byte}
 use Rattle.recode.proofs.low.Low.filled.Goals as goal
 
+pub invariant_of-result-then-bytes-at : goal.invariant_of-result-then-bytes-at
+invariant_of-result-then-bytes-at c =
+    let s = c.args.self in record { few = omega arith; carried = omega (arith, s.carried, more_bits s.bits) }
+
 pub returns-then-bytes-at : goal.returns-then-bytes-at
 unfolding remaining
 returns-then-bytes-at c =
-    let s = c.args.self in (
-      no_byte c.args.bytes.now s.at (s.bits + 32) s.bits s.low c.if-bytes-at.true,
-      (record { few = omega arith; low = omega (arith, c.requires.low, more_bits s.bits) }, omega arith),
-    )
+    let s = c.args.self in
+    (no_byte c.args.bytes.now s.at (s.bits + 32) s.bits s.low c.if-bytes-at.true, omega arith)
+
+pub invariant_of-result-2 : goal.invariant_of-result-2
+invariant_of-result-2 c =
+    let s = c.args.self in
+    let w = c.word_at-word in
+    let f = shifted_word w.result s.bits w.ensures.0 (omega arith) in
+    record { few = omega arith; carried = omega (arith, f, word_bound w.result s.bits s.low w.ensures.0 s.carried, more_bits s.bits) }
 
 pub returns : goal.returns
 unfolding remaining
 returns c =
     let s = c.args.self in
+    let w = c.word_at-word in
     let k : s.bits ≤ 15 = omega arith in
-    let f = shifted_word c.word_at-word.result s.bits c.word_at-word.ensures.0 k in
     let bytes = c.args.bytes.now in (
-      ap (λ (n : ℕ). s.low + n + 2 ^ (s.bits + 32) * little (drop (s.at + 4) bytes)) f
-          ∙ next_word c.word_at-word.result s.bits s.low (little (drop (s.at + 4) bytes)) (little (drop s.at bytes)) c.word_at-word.ensures.1,
-      (
-        record {
-          few = omega arith;
-          low = omega (arith, f, word_bound c.word_at-word.result s.bits s.low c.word_at-word.ensures.0 c.requires.low, more_bits s.bits);
-        },
-        omega arith,
-      ),
+      ap (λ (n : ℕ). s.low + n + 2 ^ (s.bits + 32) * little (drop (s.at + 4) bytes)) (shifted_word w.result s.bits w.ensures.0 k)
+          ∙ next_word w.result s.bits s.low (little (drop (s.at + 4) bytes)) (little (drop s.at bytes)) w.ensures.1,
+      omega arith,
     )

@@ -19,7 +19,7 @@ returns c =
       counted = record { few = omega arith; tables = omega arith; additions = omega arith; doublings = omega arith };
       misplaced = λ ls. begin_placed h ls;
       off_plan = λ ls.
-          ap (λ (o : Option ℕ). earlier o (differs 2 (tables (plan h)) (table_lines ls))) c.or-fault.ensures
+          ap (λ (o : Option ℕ). earlier o (differs 2 (tables (plan h)) (table_lines ls))) c.fault_or.ensures
           ∙ begin_tables h ls c.is_on_plan-met.result (c.is_on_plan-met.ensures ∙ ap is_on_plan e);
       disallowed = λ ls. begin_disallowed h ls (plan h);
       excess = λ ls. begin_excess h ls _;

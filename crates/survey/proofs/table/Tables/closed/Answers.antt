@@ -14,7 +14,7 @@ returns c =
     record {
       count = refl;
       rest =
-          c.or-next.ensures
+          c.fault_or.ensures
           ∙ ap (λ (n : ℕ). earlier (found a.self.fault) (unless (leb n a.self.count) a.line)) c.table_lines.ensures
           ∙ tables_closed (tables a.plan) (found a.self.fault) a.line a.self.count;
     }

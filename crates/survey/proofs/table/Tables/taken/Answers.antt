@@ -15,6 +15,6 @@ returns c =
     record {
       count = refl;
       rest = λ x e ts.
-          ap (λ (o : Option ℕ). earlier o (differs (a.line + 1) (drop (a.self.count + 1) (tables a.plan)) ts)) c.or-next.ensures
+          ap (λ (o : Option ℕ). earlier o (differs (a.line + 1) (drop (a.self.count + 1) (tables a.plan)) ts)) c.fault_or.ensures
           ∙ table_taken (tables a.plan) x (found a.self.fault) a.line a.self.count ts c.is_table-met.result (c.is_table-met.ensures x e);
     }

@@ -1,0 +1,3 @@
+-- The theorems of this crate on which nothing in specs/ rests: a definition can be made wrong, and these refuse it.
+pub mod Question
+pub mod Turn
