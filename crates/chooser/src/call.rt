@@ -7,6 +7,7 @@ ghost use Rattle.writer.specs.Call.{number};
 ghost use Rattle.chooser.specs.Body.Choice.{plan_answer, plan_buffer};
 ghost use Rattle.chooser.specs.Call.{choice_number, choice_question, choice_answer, ChoicePromised, cheapest_question, cheapest_answer, cheapest_buffer, Promised};
 
+use crate::recodable::Recodable;
 use digits::{Machine, Missed, Scalar};
 use sheet::Plan;
 use writer::{Sheet, WriteSheet};
@@ -30,7 +31,9 @@ pub fn cheapest_plan<M: Machine>(k: Scalar<'_>, l: Scalar<'_>, limit: u32) -> Re
 {
     digits::check_scalars(k, l, M::LIMITS)?;
     check_limit(limit)?;
-    Ok(crate::choice::first_plan(k.bytes, l.bytes, limit))
+    let k = Recodable { scalar: k };
+    let l = Recodable { scalar: l };
+    Ok(crate::choice::first_plan(k, l, limit))
 }
 
 // The sheet of a plan. Questions 1, 2 and 3 are asked.

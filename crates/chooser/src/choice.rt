@@ -1,5 +1,4 @@
-ghost use Rattle.std.specs.Prelude.{◌≡◌, ◌<◌, ◌≤◌, pos, length, get_or};
-ghost use Rattle.digits.specs.Limits.{gateway};
+ghost use Rattle.std.specs.Prelude.{◌≡◌, ◌<◌, pos, get_or};
 ghost use Rattle.digits.specs.Scalar.{scalar};
 ghost use Rattle.sheet.specs.declared.Plan.{Plan};
 ghost use Rattle.chooser.specs.Cheapest.{cheapest_plan, plans, within};
@@ -8,6 +7,7 @@ ghost use Rattle.chooser.specs.Candidate.{first_window, cost_with, either, eithe
 ghost use Rattle.chooser.specs.Candidate.Turns.{Stands};
 ghost use Rattle.chooser.specs.Lexicographic.{least};
 
+use crate::recodable::Recodable;
 use crate::sizes::Sizes;
 use sheet::Plan;
 
@@ -116,9 +116,8 @@ fn least_plan(sizes: &Sizes, limit: u32) -> Plan
 }
 
 // The first plan within the limit for two scalars.
-pub fn first_plan(k: &[u8], l: &[u8], limit: u32) -> Plan
-    requires { (1 ≤ length k.now) × ((length k.now ≤ gateway.bytes) × ((1 ≤ length l.now) × (length l.now ≤ gateway.bytes))) }
-    ensures { result ≡ cheapest_plan (pos (scalar k.now)) (pos (scalar l.now)) limit }
+pub fn first_plan(k: Recodable<'_>, l: Recodable<'_>, limit: u32) -> Plan
+    ensures { result ≡ cheapest_plan (pos (scalar k.entry.scalar.bytes.now)) (pos (scalar l.entry.scalar.bytes.now)) limit }
 {
     least_plan(&Sizes::within(k, l, limit), limit)
 }

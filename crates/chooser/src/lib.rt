@@ -4,6 +4,7 @@
 mod call;
 mod choice;
 mod next;
+mod recodable;
 mod sizes;
 
 pub use call::{cheapest, cheapest_plan, sheet_of};

@@ -1,5 +1,5 @@
-ghost use Rattle.std.specs.Prelude.{◌≡◌, ◌≤◌, pos, length};
-ghost use Rattle.digits.specs.Limits.{card, gateway};
+ghost use Rattle.std.specs.Prelude.{◌≡◌, ◌≤◌, pos};
+ghost use Rattle.digits.specs.Limits.{card};
 ghost use Rattle.digits.specs.Scalar.{scalar, signed_scalar};
 ghost use Rattle.sheet.specs.Plan.{most_slots};
 ghost use Rattle.chooser.specs.Call.{choice_question};
@@ -8,6 +8,7 @@ ghost use Rattle.chooser.specs.Body.BySlots.{by_slots, lowest};
 ghost use Rattle.chooser.specs.Body.Choice.{plan_additions};
 
 use crate::choice::PLANS;
+use crate::recodable::Recodable;
 use crate::sizes::Sizes;
 use digits::{Card, Machine, Missed, Scalar};
 use sheet::Plan;
@@ -53,10 +54,9 @@ fn first_lower(numbers: &[u64; SLOTS], limit: u32) -> Option<Pays>
 }
 
 // The first larger limit that pays for two scalars, each of which is recoded once for each window.
-fn next_of(k: &[u8], l: &[u8], limit: u32) -> Option<Pays>
-    requires scalars { (1 ≤ length k.now) × ((length k.now ≤ gateway.bytes) × ((1 ≤ length l.now) × (length l.now ≤ gateway.bytes))) }
-    requires limit { limit ≤ most_slots }
-    ensures { result ≡ next_limit (pos (scalar k.now)) (pos (scalar l.now)) limit }
+fn next_of(k: Recodable<'_>, l: Recodable<'_>, limit: u32) -> Option<Pays>
+    requires { limit ≤ most_slots }
+    ensures { result ≡ next_limit (pos (scalar k.entry.scalar.bytes.now)) (pos (scalar l.entry.scalar.bytes.now)) limit }
 {
     let sizes = Sizes::within(k, l, Plan::MOST_SLOTS);
     first_lower(&fewest_by_slots(&sizes), limit)
@@ -71,5 +71,7 @@ pub fn next_limit(k: Scalar<'_>, l: Scalar<'_>, limit: u32) -> Result<Option<Pay
 {
     digits::check_scalars(k, l, Card::LIMITS)?;
     crate::call::check_limit(limit)?;
-    Ok(next_of(k.bytes, l.bytes, limit))
+    let k = Recodable { scalar: k };
+    let l = Recodable { scalar: l };
+    Ok(next_of(k, l, limit))
 }

@@ -1,12 +1,12 @@
 ghost use Rattle.std.specs.Prelude.{◌≡◌, ◌+◌, ◌-◌, ◌*◌, ◌/◌, ◌%◌, ◌<◌, ◌≤◌, pos, length, get_or};
-ghost use Rattle.digits.specs.Limits.{gateway};
 ghost use Rattle.digits.specs.Scalar.{scalar};
 ghost use Rattle.forms.specs.Joint.{joint};
 ghost use Rattle.forms.specs.Row.{row};
 ghost use Rattle.chooser.specs.Body.Choice.{plan_weight, plan_places, plan_additions, plan_doublings};
 ghost use Rattle.chooser.specs.Body.Sizes.{Fit, size_told, row_of, columns_of, row_size, row_sizes, joint_size, size_at, sizes};
 
-use digits::{Gateway, Missed, Scalar};
+use crate::recodable::Recodable;
+use digits::{Gateway, Missed};
 use recode::{Recode, Written};
 use sheet::Plan;
 
@@ -33,9 +33,8 @@ pub struct Sizes {
 
 impl Sizes {
     // The sizes that plans within the limit need; none in place of others.
-    pub fn within(k: &[u8], l: &[u8], limit: u32) -> Sizes
-        requires { (1 ≤ length k.now) × ((length k.now ≤ gateway.bytes) × ((1 ≤ length l.now) × (length l.now ≤ gateway.bytes))) }
-        ensures { result ≡ sizes limit (scalar k.now) (scalar l.now) }
+    pub fn within(k: Recodable<'_>, l: Recodable<'_>, limit: u32) -> Sizes
+        ensures { result ≡ sizes limit (scalar k.entry.scalar.bytes.now) (scalar l.entry.scalar.bytes.now) }
     {
         Sizes {
             k: row_sizes(k, limit),
@@ -107,56 +106,53 @@ fn size_told(answer: Result<Written, Missed>) -> Size
 }
 
 // The size of the scalar's row for the window m, which is written into the places lent.
-fn row_size(bytes: &[u8], m: u32, digits: &mut [u8]) -> Size
-    requires recodable { (1 ≤ length bytes.now) × ((length bytes.now ≤ gateway.bytes) × ((m % 2 ≡ 1) × (m ≤ 31))) }
-    requires room { 8 * length bytes.now + 1 ≤ length digits.old }
-    ensures { result ≡ row_of (row m (pos (scalar bytes.now))) }
+fn row_size(k: Recodable<'_>, m: u32, digits: &mut [u8]) -> Size
+    requires window { (m % 2 ≡ 1) × (m ≤ 31) }
+    requires room { 8 * length k.scalar.bytes.now + 1 ≤ length digits.old }
+    ensures { result ≡ row_of (row m (pos (scalar k.entry.scalar.bytes.now))) }
 {
-    size_told(Gateway::row(Scalar { bytes, sign: 0 }, m, digits))
+    size_told(Gateway::row(k.unsigned(), m, digits))
 }
 
 // The size of the scalar's row for the window m where a plan within the limit may have it, and none where none may.
-fn row_size_within(bytes: &[u8], m: u32, limit: u32, digits: &mut [u8]) -> Size
-    requires recodable { (1 ≤ length bytes.now) × ((length bytes.now ≤ gateway.bytes) × ((m % 2 ≡ 1) × (m ≤ 31))) }
-    requires room { 8 * length bytes.now + 1 ≤ length digits.old }
-    ensures { result ≡ row_size limit (scalar bytes.now) m }
+fn row_size_within(k: Recodable<'_>, m: u32, limit: u32, digits: &mut [u8]) -> Size
+    requires window { (m % 2 ≡ 1) × (m ≤ 31) }
+    requires room { 8 * length k.scalar.bytes.now + 1 ≤ length digits.old }
+    ensures { result ≡ row_size limit (scalar k.entry.scalar.bytes.now) m }
 {
     if Plan::I(m, 1).is_within(limit) {
-        return row_size(bytes, m, digits);
+        return row_size(k, m, digits);
     }
     Size::default()
 }
 
 // The sizes of the scalar's rows, for the windows 1, 3, .. 31, as far as the limit lets a plan have them.
-fn row_sizes(bytes: &[u8], limit: u32) -> [Size; WINDOWS]
-    requires { (1 ≤ length bytes.now) × (length bytes.now ≤ gateway.bytes) }
-    ensures { result ≡ row_sizes limit (scalar bytes.now) }
+fn row_sizes(k: Recodable<'_>, limit: u32) -> [Size; WINDOWS]
+    ensures { result ≡ row_sizes limit (scalar k.entry.scalar.bytes.now) }
 {
     let mut sizes = [Size::default(); WINDOWS];
     let mut digits = [0u8; PLACES];
-    let places = 8 * bytes.len() + 1;
+    let places = 8 * k.scalar.bytes.len() + 1;
     for (i, size) in sizes.iter_mut().enumerate() {
-        *size = row_size_within(bytes, 2 * (i as u32) + 1, limit, &mut digits[..places]);
+        *size = row_size_within(k, 2 * (i as u32) + 1, limit, &mut digits[..places]);
     }
     sizes
 }
 
 // The size of the joint form.
-fn joint_size(k: &[u8], l: &[u8]) -> Size
-    requires { (1 ≤ length k.now) × ((length k.now ≤ gateway.bytes) × ((1 ≤ length l.now) × (length l.now ≤ gateway.bytes))) }
-    ensures { result ≡ columns_of (joint (pos (scalar k.now)) (pos (scalar l.now))) }
+fn joint_size(k: Recodable<'_>, l: Recodable<'_>) -> Size
+    ensures { result ≡ columns_of (joint (pos (scalar k.entry.scalar.bytes.now)) (pos (scalar l.entry.scalar.bytes.now))) }
 {
     let mut k_digits = [0u8; PLACES];
     let mut l_digits = [0u8; PLACES];
-    let k = Scalar { bytes: k, sign: 0 };
-    let l = Scalar { bytes: l, sign: 0 };
+    let k = k.unsigned();
+    let l = l.unsigned();
     size_told(Gateway::joint(k, l, &mut k_digits, &mut l_digits))
 }
 
 // The size of the joint form where plan J is within the limit, and none where it is not.
-fn joint_size_within(k: &[u8], l: &[u8], limit: u32) -> Size
-    requires { (1 ≤ length k.now) × ((length k.now ≤ gateway.bytes) × ((1 ≤ length l.now) × (length l.now ≤ gateway.bytes))) }
-    ensures { result ≡ joint_size limit (scalar k.now) (scalar l.now) }
+fn joint_size_within(k: Recodable<'_>, l: Recodable<'_>, limit: u32) -> Size
+    ensures { result ≡ joint_size limit (scalar k.entry.scalar.bytes.now) (scalar l.entry.scalar.bytes.now) }
 {
     if Plan::J.is_within(limit) {
         return joint_size(k, l);

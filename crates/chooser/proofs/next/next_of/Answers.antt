@@ -5,5 +5,5 @@ use Rattle.chooser.proofs.next.next_of.Goals as goal
 
 pub returns : goal.returns
 returns c =
-    next_by_slots (scalar c.args.k.now) (scalar c.args.l.now) c.args.limit c.requires.limit
+    next_by_slots (scalar c.args.k.scalar.bytes.now) (scalar c.args.l.scalar.bytes.now) c.args.limit c.requires
     (rw (c.fewest_by_slots.ensures, c.within-sizes.ensures) at c.first_lower.ensures)

@@ -5,10 +5,13 @@ use Rattle.chooser.proofs.sizes.joint_size.Goals as goal
 
 pub size_told-requires : goal.size_told-requires
 size_told-requires c =
-    joint_fits c.args.k.now c.args.l.now (replicate 1025 0) (replicate 1025 0) c.joint.ensures.answer (λ i. (c.type_inv.k i).fits) (λ i. (c.type_inv.l i).fits)
+    let k = c.args.k.scalar in
+    let l = c.args.l.scalar in
+    joint_fits k.bytes.now l.bytes.now (replicate 1025 0) (replicate 1025 0) (rw (c.unsigned-k.ensures.0, c.unsigned-k.ensures.1, c.unsigned-l.ensures.0, c.unsigned-l.ensures.1) at c.joint.ensures.answer) k.are_bytes l.are_bytes
 
 pub returns : goal.returns
 returns c =
-    let r = c.requires in
+    let k = c.args.k in
+    let l = c.args.l in
     c.size_told.ensures
-    ∙ joint_measured c.args.k.now c.args.l.now (replicate 1025 0) (replicate 1025 0) c.joint.ensures.answer r.0 r.1.0 r.1.1.0 r.1.1.1 (omega arith) (omega arith)
+    ∙ joint_measured k.scalar.bytes.now l.scalar.bytes.now (replicate 1025 0) (replicate 1025 0) (rw (c.unsigned-k.ensures.0, c.unsigned-k.ensures.1, c.unsigned-l.ensures.0, c.unsigned-l.ensures.1) at c.joint.ensures.answer) k.some k.few l.some l.few (omega arith) (omega arith)

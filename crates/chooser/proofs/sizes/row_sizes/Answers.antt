@@ -8,6 +8,6 @@ use Rattle.chooser.proofs.sizes.row_sizes.Goals as goal
 
 pub returns : goal.returns
 returns c =
-    let k = scalar c.args.bytes.now in
+    let k = scalar c.args.k.scalar.bytes.now in
     ext_get_or none c.loop-i.size-items (row_sizes c.args.limit k) (c.loop-i.invariant.0 ∙ sym (sizes_length c.args.limit k))
     (λ i h. c.loop-i.invariant.1 i (omega (arith, c.loop-i.invariant.0)) ∙ sym (sizes_at c.args.limit k i (omega (arith, c.loop-i.invariant.0))))

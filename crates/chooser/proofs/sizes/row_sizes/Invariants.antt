@@ -5,4 +5,4 @@ use Rattle.chooser.specs.Body.Sizes.{none, row_size}
 use Rattle.chooser.proofs.sizes.row_sizes.Given as goal
 
 abbrev pub invariant-loop-i : goal.invariant-loop-i
-invariant-loop-i l = (length l.size-items ≡ 16) × ((i : ℕ) → i < l.i → get_or l.size-items i none ≡ row_size l.limit (scalar l.bytes) (2 * i + 1))
+invariant-loop-i l = (length l.size-items ≡ 16) × ((i : ℕ) → i < l.i → get_or l.size-items i none ≡ row_size l.limit (scalar l.k.scalar.bytes.now) (2 * i + 1))
