@@ -25,35 +25,42 @@ use Rattle.writer.specs.Call.{SheetAnswer, j_answer, i_answer, i_down_answer}
 use Rattle.chooser.specs.Call.{cheapest_answer}
 use Rattle.chooser.specs.Next.{NextLimit, next_answer}
 use Rattle.sheet.specs.Answer.{answer}
-use Rattle.host.specs.Told.{joined, Fits, RecodedFits, SheetFits, told_next, NextFits, sheets_number, sheets_length, sheets_limit, sheets_weight}
+use Rattle.host.specs.Told.{numbered, joined, Fits, RecodedFits, SheetFits, told_next, NextFits, sheets_number, sheets_length, sheets_limit, sheets_weight}
 use Rattle.host.specs.Told.Lines.{line_within}
 use Rattle.host.specs.Told.Parts.{Tellable, row_fits, down_fits, joint_fits, codes_fits, j_fits, i_fits, i_down_fits, cheapest_fits, next_fits, Larger, next_larger, dearest_fits}
 use Rattle.host.specs.Promise.{DearestParts, JudgementParts, NextParts, PackingParts, RecodedParts, SheetParts}
 
 -- what is put together comes out again
-module _ {length count : ℕ} (h : Fits length count) where
-  above : sheets_number (joined length count) ≡ 0
+module _ (n : ℕ) {length count : ℕ} (h : Fits length count) where
+  above : sheets_number (numbered n (joined length count)) ≡ n
   above = omega (arith, h.length_fits, h.count_fits)
 
-  below : sheets_length (joined length count) ≡ length
+  below : sheets_length (numbered n (joined length count)) ≡ length
   below = omega (arith, h.length_fits, h.count_fits)
 
-  limit_below : sheets_limit (joined length count) ≡ length
+  limit_below : sheets_limit (numbered n (joined length count)) ≡ length
   limit_below = omega (arith, h.length_fits, h.count_fits)
 
-  between : sheets_weight (joined length count) ≡ count
+  between : sheets_weight (numbered n (joined length count)) ≡ count
   between = omega (arith, h.length_fits, h.count_fits)
 
+-- where no question is missed, the number in the high half is 0
+met : (part : ℕ → ℕ) {n rest : ℕ} → part (numbered 0 rest) ≡ n → part rest ≡ n
+met part {n} {rest} e = ap part plain ∙ e
+  where
+    plain : rest ≡ numbered 0 rest
+    plain = omega arith
+
 recoded_parts : (r : Recoded) → RecodedFits r → RecodedParts r
-recoded_parts (Ok w) h = record { number_is = above h; length_is = below h; weight_is = between h }
+recoded_parts (Ok w) h = record { number_is = met sheets_number (above 0 h); length_is = met sheets_length (below 0 h); weight_is = met sheets_weight (between 0 h) }
 recoded_parts (Err e) h = record { number_is = omega arith; length_is = omega arith; weight_is = omega arith }
 
 sheet_parts : (s : SheetAnswer) → SheetFits s → SheetParts s
-sheet_parts (Ok s) h = record { number_is = above h; length_is = below h; additions_are = between h }
+sheet_parts (Ok s) h = record { number_is = met sheets_number (above 0 h); length_is = met sheets_length (below 0 h); additions_are = met sheets_weight (between 0 h) }
 sheet_parts (Err e) h = record { number_is = omega arith; length_is = omega arith; additions_are = omega arith }
 
 told_parts : (n : NextLimit) → NextFits n → NextParts n
-told_parts (Ok (Some p)) h = record { number_is = above h; limit_is = limit_below h; additions_are = between h }
+told_parts (Ok (Some p)) h = record { number_is = met sheets_number (above 0 h); limit_is = met sheets_limit (limit_below 0 h); additions_are = met sheets_weight (between 0 h) }
 told_parts (Ok None) h = record { number_is = refl; limit_is = refl; additions_are = refl }
 told_parts (Err e) h = record { number_is = omega arith; limit_is = omega arith; additions_are = omega arith }
 
