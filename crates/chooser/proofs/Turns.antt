@@ -1,6 +1,6 @@
 -- The turns of the loop over the plans, and that for a plan within the limit the keys by sizes are those of the order.
-use mathlib.Core.Path.{◌≡◌, sym, ap, ap₂, ◌∙◌}
-use mathlib.Core.Bool.{cond}
+use mathlib.Core.Path.{◌≡◌, refl, sym, ap, ap₂, ◌∙◌}
+use mathlib.Core.Bool.{Bool, true, false, cond}
 use mathlib.Core.List.{List, []}
 use Prim.Native.Nat.{ℕ, ◌+◌, ◌-◌, ◌*◌, ◌/◌, ◌≤◌, ◌<◌, max}
 use native.Mathlib.Numerals.{add-one}
@@ -25,7 +25,9 @@ use Rattle.chooser.specs.Cheapest.{cheapest_plan, key_with, key, plans, within}
 use Rattle.chooser.specs.Body.Choice.{plan_weight, plan_places, plan_additions, cost_key}
 use Rattle.chooser.proofs.Laws.Cheapest.Least.{smallest, within_valid}
 use Rattle.chooser.proofs.Laws.Cheapest.Lists.{within_in}
-use Rattle.chooser.specs.Candidate.Turns.{take_one}
+use Rattle.chooser.specs.declared.choice.Candidate.{Candidate}
+use Rattle.chooser.specs.Candidate.{either}
+use Rattle.chooser.specs.Candidate.Turns.{Stands, either_better, take_one}
 use Rattle.chooser.specs.Lexicographic.{better, least}
 use Rattle.chooser.specs.Lexicographic.Order.{least_agrees}
 use Rattle.chooser.specs.declared.sizes.Size.{Size}
@@ -44,6 +46,15 @@ module _ (f : Plan → List ℕ) (limit : ℕ) where
   pub last_plan : (best : Plan) (n : ℕ) → within limit (drop n plans) ≡ [] → least f best (within limit (drop n plans)) ≡ best
   unfolding least
   last_plan best n e = rw e
+
+-- a plan within the limit: the better of the two stands; any other leaves the best so far
+module _ (f : Plan → List ℕ) (best x : Candidate) (p : Plan) (within_it : Bool) (s : Stands f best) where
+  pub plan_taken : (c : Candidate) → Stands f c → c.plan ≡ p → x ≡ either best c → within_it ≡ true
+      → (x.plan ≡ cond within_it (better f best.plan p) best.plan) × Stands f x
+  plan_taken c t same is asked = rw (is, asked, ← same) (either_better f best c s t)
+
+  pub plan_passed : x ≡ best → within_it ≡ false → (x.plan ≡ cond within_it (better f best.plan p) best.plan) × Stands f x
+  plan_passed is asked = rw (is, asked) (refl, s)
 
 -- ── the keys by sizes ─────────────────────────────────────────────────────────────────────
 

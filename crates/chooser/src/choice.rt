@@ -110,7 +110,11 @@ fn least_plan(sizes: &Sizes, limit: u32) -> Plan
 {
     let mut best = candidate_of(Plan::I(1, 1), sizes);
     for n in 0..plans_to_try(limit) {
-        best = best.or_within(candidate_of(plan_at(n), sizes), limit);
+        let plan = plan_at(n);
+        // Asked before the cost is worked out: at a low limit most plans need more slots.
+        if plan.is_within(limit) {
+            best = best.or(candidate_of(plan, sizes));
+        }
     }
     best.plan
 }
