@@ -25,7 +25,7 @@ fn new_plan(k: Scalar<'_>, l: Scalar<'_>, limit: u32) -> Plan
 }
 
 // Puts the line of the n-th order at a place if its plan changed, and returns the place behind it. By number: three fields in one loop.
-fn put_order(out: &mut [u8], at: usize, n: u32) -> usize
+fn put_order(out: &mut [u8], at: usize, n: u32, buffer: &mut [u8; crate::old::ROOM]) -> usize
     requires { (n < 1024) × (at + 18 ≤ length out.old) }
     ensures answer { result ≡ at + length (line_if (order_at n)) }
     ensures line_fits { result ≤ at + 18 }
@@ -44,7 +44,7 @@ fn put_order(out: &mut [u8], at: usize, n: u32) -> usize
         bytes: &l_bytes,
         sign: 0,
     };
-    let old = crate::old::old_plan(first, second, limit);
+    let old = crate::old::old_plan(first, second, limit, buffer);
     let new = new_plan(first, second, limit);
     if old == new {
         return at;
@@ -61,9 +61,10 @@ pub fn changed_orders(out: &mut [u8]) -> usize
     if out.len() < ROOM {
         return 0;
     }
+    let mut buffer = [0u8; crate::old::ROOM];
     let mut at = 0;
     for n in 0..ORDERS {
-        at = put_order(out, at, n);
+        at = put_order(out, at, n, &mut buffer);
     }
     at
 }

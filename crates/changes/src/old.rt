@@ -11,7 +11,7 @@ use digits::{Card, Scalar};
 use sheet::Plan;
 
 // The most bytes of a card's sheet.
-const ROOM: usize = 16384;
+pub const ROOM: usize = 16384;
 
 // The plans that three slots let in.
 const FEW: [Plan; 7] = [
@@ -24,14 +24,14 @@ const FEW: [Plan; 7] = [
     Plan::I(5, 1),
 ];
 
-// The additions of a plan's sheet. The plans are the seven above, and the scalars of one byte.
-fn additions_of(plan: Plan, k: Scalar<'_>, l: Scalar<'_>) -> u32
+// The additions of a plan's sheet, which is written into the buffer lent. The plans are the seven above, and the scalars of one byte. One
+// buffer serves all plans and orders: zeros for each of them took as long as half of the rest.
+fn additions_of(plan: Plan, k: Scalar<'_>, l: Scalar<'_>, buffer: &mut [u8; ROOM]) -> u32
     requires { Valid plan × (sized card k.bytes.now && sized card l.bytes.now ≡ true) }
     ensures { result ≡ written_additions plan (signed_scalar k.entry.bytes.now k.entry.sign) (signed_scalar l.entry.bytes.now l.entry.sign) }
 {
-    let mut buffer = [0u8; ROOM];
     // By a match: behind `map_or` the proof doesn't see what the closure answers.
-    match chooser::sheet_of::<Card>(plan, k, l, &mut buffer) {
+    match chooser::sheet_of::<Card>(plan, k, l, buffer) {
         Ok(sheet) => sheet.additions,
         // Each scalar is sized, each window is one, and the buffer has room.
         Err(_) => 0,
@@ -39,23 +39,23 @@ fn additions_of(plan: Plan, k: Scalar<'_>, l: Scalar<'_>) -> u32
 }
 
 // A plan with its cost by the old order, where doublings do not count.
-fn old_candidate(plan: Plan, k: Scalar<'_>, l: Scalar<'_>) -> Candidate
+fn old_candidate(plan: Plan, k: Scalar<'_>, l: Scalar<'_>, buffer: &mut [u8; ROOM]) -> Candidate
     requires { Valid plan × (sized card k.bytes.now && sized card l.bytes.now ≡ true) }
     ensures { result ≡ old_candidate (signed_scalar k.entry.bytes.now k.entry.sign) (signed_scalar l.entry.bytes.now l.entry.sign) plan }
 {
-    let cost = Cost::of(plan, additions_of(plan, k, l) as u64, 0);
+    let cost = Cost::of(plan, additions_of(plan, k, l, buffer) as u64, 0);
     Candidate { plan, cost }
 }
 
 // The cheapest plan by the old order, for a limit of at most 3.
-pub fn old_plan(k: Scalar<'_>, l: Scalar<'_>, limit: u32) -> Plan
+pub fn old_plan(k: Scalar<'_>, l: Scalar<'_>, limit: u32, buffer: &mut [u8; ROOM]) -> Plan
     requires { (sized card k.bytes.now && sized card l.bytes.now ≡ true) × (limit ≤ 3) }
     ensures { result ≡ old_plan (signed_scalar k.entry.bytes.now k.entry.sign) (signed_scalar l.entry.bytes.now l.entry.sign) limit }
 {
-    let mut best = old_candidate(Plan::I(1, 1), k, l);
+    let mut best = old_candidate(Plan::I(1, 1), k, l, buffer);
     for plan in FEW {
         if plan.is_within(limit) {
-            best = best.or(old_candidate(plan, k, l));
+            best = best.or(old_candidate(plan, k, l, buffer));
         }
     }
     best.plan
