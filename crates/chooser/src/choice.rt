@@ -1,9 +1,10 @@
 ghost use Rattle.std.specs.Prelude.{◌≡◌, ◌<◌, pos, get_or};
 ghost use Rattle.digits.specs.Scalar.{scalar};
 ghost use Rattle.sheet.specs.declared.Plan.{Plan};
-ghost use Rattle.chooser.specs.Cheapest.{cheapest_plan, plans, within};
+ghost use Rattle.written.specs.Written.{first};
+ghost use Rattle.chooser.specs.Cheapest.{cheapest_plan, plans, rank, within};
 ghost use Rattle.chooser.specs.Body.Choice.{cost_key, Enough};
-ghost use Rattle.chooser.specs.Candidate.{first_window, cost_with, either, either_within};
+ghost use Rattle.chooser.specs.Candidate.{cost_with, either, either_within};
 ghost use Rattle.chooser.specs.Candidate.Turns.{Stands};
 ghost use Rattle.chooser.specs.Lexicographic.{least};
 
@@ -20,8 +21,9 @@ pub struct Cost {
     pub additions: u64,
     pub doublings: u64,
     pub slots: u32,
-    // The first window of plan I; J has none, and comes first.
-    pub first: Option<u32>,
+    // Two numbers and no Option of the first window: a caller may put any here, and each is compared.
+    pub rank: u32,
+    pub first: u32,
 }
 
 // A plan with its cost.
@@ -40,7 +42,8 @@ impl Cost {
             additions,
             doublings,
             slots: plan.slots(),
-            first: first_window(plan),
+            rank: rank_of(plan),
+            first: first_of(plan),
         }
     }
 }
@@ -65,13 +68,23 @@ impl Candidate {
     }
 }
 
-// The first window of plan I; J has none.
-fn first_window(plan: Plan) -> Option<u32>
-    ensures { result ≡ first_window plan }
+// J before I.
+fn rank_of(plan: Plan) -> u32
+    ensures { result ≡ rank plan }
 {
     match plan {
-        Plan::J => None,
-        Plan::I(m1, _) => Some(m1),
+        Plan::J => 0,
+        Plan::I(_, _) => 1,
+    }
+}
+
+// The first window; J goes by 1.
+fn first_of(plan: Plan) -> u32
+    ensures { result ≡ first plan }
+{
+    match plan {
+        Plan::J => 1,
+        Plan::I(m1, _) => m1,
     }
 }
 
