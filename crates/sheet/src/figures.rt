@@ -6,10 +6,14 @@ ghost use Rattle.sheet.specs.Spelling.Field.{is_numeral, decimal_of};
 pub fn worth_of(byte: u8) -> u32
     ensures { result ≡ worth byte }
 {
-    match byte {
+    // One range each, so that the compiler chooses without a branch: which of the two a scalar's figure lies in can't be foreseen.
+    let decimal = match byte {
         b'0'..=b'9' => byte as u32 - b'0' as u32,
-        b'a'..=b'f' => byte as u32 - b'a' as u32 + 10,
         _ => 16,
+    };
+    match byte {
+        b'a'..=b'f' => byte as u32 - b'a' as u32 + 10,
+        _ => decimal,
     }
 }
 
