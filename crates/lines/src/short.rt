@@ -26,11 +26,14 @@ pub struct Short {
     pub end: usize,
 }
 
-// The decimal figure of a byte; 10 where there is none, as for `worth_of`: one comparison, and no branch.
+// The decimal figure of a byte; 10, a figure of no decimal, where there is none. One range, and so no branch.
 fn figure_of(byte: u8) -> u32
     ensures { result ≡ min (worth byte) 10 }
 {
-    (byte.wrapping_sub(b'0') as u32).min(10)
+    match byte {
+        b'0'..=b'9' => byte as u32 - b'0' as u32,
+        _ => 10,
+    }
 }
 
 // The digit at a place. A 0 stands alone: no minus before it, no figure behind it.

@@ -38,6 +38,7 @@ fn tables_at_end(phase: Phase, tables: Tables, plan: Plan, line: u32) -> Tables
 
 // By value, and handed back by each method, as was asked for (docs/PROOFS.md). That the counts are few stands in the methods' clauses and
 // not in the type: how many lines there can be the loop alone knows.
+// A method that keeps the phase still names it: the compiler then knows it in the loop, and a line takes fewer steps.
 impl State {
     // Behind the header.
     pub fn new(limits: Limits, header: Header) -> State
@@ -73,6 +74,7 @@ impl State {
         let counts = crate::table::counts_of(t);
         State {
             line: self.line + 1,
+            phase: Phase::Tables,
             tables: self.tables.taken(plan, t, self.line),
             additions: self.additions + counts.additions,
             doublings: self.doublings + counts.doublings,
@@ -101,6 +103,7 @@ impl State {
     {
         State {
             line: self.line + 1,
+            phase: Phase::Steps,
             steps: self.steps.lowered(),
             doubles: self.doubles.taken(self.line),
             doublings: self.doublings + 1,
@@ -116,6 +119,7 @@ impl State {
     {
         State {
             line: self.line + 1,
+            phase: Phase::Steps,
             steps: self.steps.taken(plan, t, self.line),
             additions: self.additions + 1,
             ..self

@@ -24,7 +24,7 @@ pub fn add_line(p: &mut [u64], q: &mut [u64], places: usize, line: Line)
     ensures second { (x : meant.Line) → line ≡ coded x → Adds Q places x q.old q.new }
 {
     match line {
-        // An arm for each: with one for both the compiler jumps by a table twice for a step, and reading takes a fifth to a third longer.
+        // An arm for each: with one for both the compiler jumps by a table twice for a step, and reading takes a sixth longer or more.
         Line::Load(t) => add_point(p, q, places, t),
         Line::Add(t) => add_point(p, q, places, t),
         Line::Table(_) | Line::Double | Line::End | Line::Other => {}
